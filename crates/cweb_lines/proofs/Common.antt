@@ -14,23 +14,20 @@ pub use Rattle.std.proofs.lemmas.List.{append-nil, length-map, map-append, drop-
 pub use Rattle.std.proofs.lemmas.Slice.Eq.{bytes_eq-Decides}
 pub use Rattle.std.specs.List.{AllByRecursion, list_any}
 pub use Rattle.std.specs.Option.{is_some, option_copied}
-pub use Rattle.std.specs.Prelude.{slice_range, unwrap_or, IfSome, OnSome, nat_lt, IsTrue, Result, Ok, IfOk, OnOk, OnErr}
+pub use Rattle.std.specs.Prelude.{slice_range, unwrap_or, IfSome, OnSome, nat_lt, Result, Ok, IfOk, OnOk, OnErr}
 pub use Rattle.std.specs.Prelude.{codes, option_map, IfErr, is_ok}
 pub use Rattle.std.specs.Str.{bytes_eq}
 pub use Rattle.cweb_files.specs.declared.place.Place.{Place}
 pub use Rattle.cweb_files.specs.Sinks.{FailsWithin, SinkModel, written}
 pub use Rattle.cweb_files.specs.surface.Writes.{Prints, WritesPrefix}
-pub use Rattle.cweb_files.specs.surface.Frames.{KeepsShelf}
-pub use Rattle.cweb_input.proofs.ReadersStayNamed.{stop_after, blames_none, blames_memory}
 pub use Rattle.cweb_input.proofs.SourceStacks.{over-none}
 pub use Rattle.cweb_input.specs.Include.{World, Found, found_at, include_name, is_include_line, change_at, names_found}
 pub use Rattle.cweb_input.specs.Include.{contents_found}
 pub use Rattle.cweb_input.specs.Lines.{Line, SourceLine, CutLine, numbered_lines, trimmed, lines_in, before_blanks}
 pub use Rattle.cweb_input.specs.Lines.{is_blank, onto_first, cut_lines, RawLine, Thing, passed, raw, raws, seek}
 pub use Rattle.cweb_input.specs.Lines.{reported}
-pub use Rattle.cweb_input.specs.surface.ReaderNames.{blame}
 pub use Rattle.cweb_input.specs.OpenSources.{TakenCountersModel, RefusesLine}
-pub use Rattle.cweb_input.specs.surface.OpenSources.{read_failures_of, files_named}
+pub use Rattle.cweb_input.specs.surface.OpenSources.{files_named}
 pub use Rattle.cweb_input.specs.declared.counters.TakenCounters.{TakenCounters}
 pub use Rattle.cweb_input.specs.declared.fault.SourceFault.{SourceFault}
 pub use Rattle.cweb_input.specs.declared.fault.SourceKind.{SourceKind}
@@ -117,5 +114,5 @@ pub use Rattle.cweb_lines.specs.surface.MergeReaderNames.{AreReadersKnown}
 pub use Rattle.cweb_lines.specs.surface.MergerCalls.{Grows, to_come, so_far, stop_in}
 pub use Rattle.cweb_lines.specs.surface.Stages.{change_in, pending_in, things_below, things_in}
 pub use Rattle.cweb_lines.specs.surface.Total.{merge}
-pub use Rattle.cweb_lines.specs.surface.Writing.{LosesLine, StopsWriting, WritingStops, FailureCounts, LeavesDevices}
+pub use Rattle.cweb_lines.specs.surface.Writing.{LosesLine, StopsWriting, WritingStops, LeavesSink}
 pub use Rattle.cweb_lines.specs.surface.Writing.{Writes, KeepsStop, WritesAll, WritesSome, WritesUpTo}

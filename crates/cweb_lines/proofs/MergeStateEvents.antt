@@ -34,20 +34,20 @@ coming_of t inputs l stage change first files things = merge (record { texts = t
     (state things (pending_in stage first) (change_in stage (lines_at l change)) files)
 
 -- The sources below a change are unchanged while those above change.
-below_same : {R : Type 0} (left left' : R → List ℕ) (same : left' ≡ left) (change : Change) (lines : List SourceLine)
+below_same : {R : Type 0} (left : R → List ℕ) (change : Change) (lines : List SourceLine)
     (old new : Stack R) → StaysBelow change.below old.texts new.texts
-    → things_below left change lines old ≡ things_below left' change lines new
-below_same left left' same change lines old new stays = search rules
+    → things_below left change lines old ≡ things_below left change lines new
+below_same left change lines old new stays = search rules
 
-pub takes_in : {R : Type 0} (left left' : R → List ℕ) (same : left' ≡ left) (stage : Stage) (lines : List SourceLine)
+pub takes_in : {R : Type 0} (left : R → List ℕ) (stage : Stage) (lines : List SourceLine)
     (old new : Stack R) (at : Option LineAt) (bytes : List ℕ) (before after : TakenCountersModel) → IsSettled stage
-    → TakesAbove left left' (floor_of stage) old new at bytes before after →
+    → TakesAbove left (floor_of stage) old new at bytes before after →
     StaysBelow (floor_of stage) old.texts new.texts
-    → TakesFirst (things_in left stage lines old) at bytes (things_in left' stage lines new) before after
-takes_in left left' same Seeking lines old new at bytes before after settled takes stays = absurd (settled refl)
-takes_in left left' same (Changing change) lines old new at bytes before after settled takes stays =
-    rw (← (below_same left left' same change lines old new stays)) (takes (things_below left change lines old))
-takes_in left left' same _ lines old new at bytes before after settled takes stays = takes []
+    → TakesFirst (things_in left stage lines old) at bytes (things_in left stage lines new) before after
+takes_in left Seeking lines old new at bytes before after settled takes stays = absurd (settled refl)
+takes_in left (Changing change) lines old new at bytes before after settled takes stays =
+    rw (← (below_same left change lines old new stays)) (takes (things_below left change lines old))
+takes_in left _ lines old new at bytes before after settled takes stays = takes []
 
 -- Things come first, above the sources that stay open.
 pub passes_in : {R : Type 0} (left : R → List ℕ) (stage : Stage) (lines : List SourceLine) (old new : Stack R)
@@ -56,7 +56,7 @@ pub passes_in : {R : Type 0} (left : R → List ℕ) (stage : Stage) (lines : Li
     → things_in left stage lines old ≡ first ++ things_in left stage lines new
 passes_in left Seeking lines old new first settled takes stays = absurd (settled refl)
 passes_in left (Changing change) lines old new first settled takes stays =
-    rw (← (below_same left left refl change lines old new stays)) (takes (things_below left change lines old))
+    rw (← (below_same left change lines old new stays)) (takes (things_below left change lines old))
 passes_in left _ lines old new first settled takes stays = takes []
 
 pub stops_in : {R : Type 0} (left : R → List ℕ) (stage : Stage) (lines : List SourceLine) (stack : Stack R)
@@ -73,7 +73,7 @@ pub opened_in : {R : Type 0} (left : R → List ℕ) (stage : Stage) (lines : Li
     (lines_in file (left reader)) ++ things_in left stage lines old
 opened_in left Seeking lines old new reader file at settled floor opens stays = absurd (settled refl)
 opened_in left (Changing change) lines old new reader file at settled floor opens stays =
-    rw (below_same left left refl change lines old new (λ l n le. stays l n (omega (arith, le, floor))))
+    rw (below_same left change lines old new (λ l n le. stays l n (omega (arith, le, floor))))
     (opens left change.below floor (things_below left change lines new))
 opened_in left _ lines old new reader file at settled floor opens stays = opens left 0 (omega arith) []
 
@@ -89,40 +89,34 @@ coming_none t l run none = (λ i. coming_of t (optional_string_bytes run.inputs)
     (length (opened_file_names run.names)) (things_in l (none.1 i) (lines_at l run.change) run.stack))
     ∙ nothing_above (record { texts = t; inputs = optional_string_bytes run.inputs }) l run.stack _ none.0
 
-pub coming_opened : {R : Type 0} (t t' : List ℕ → Option (List ℕ)) (l l' : R
-    → List ℕ) (run run' : MergeState R) (reader : R)
-    (name : List ℕ) (at : LineAt) → t' ≡ t → l' ≡ l → OnlyOpens run run'
+pub coming_opened : {R : Type 0} (t : List ℕ → Option (List ℕ)) (l : R → List ℕ) (run run' : MergeState R) (reader : R)
+    (name : List ℕ) (at : LineAt) → OnlyOpens run run'
     → opened_file_names run'.names ≡ opened_file_names run.names ++ name ∷ [] → IsSettled run.stage
     → OpensSource run.stack run'.stack reader (length (opened_file_names run.names)) at
     → StaysBelow run.stack.depth run.stack.texts run'.stack.texts
     → coming_of t (optional_string_bytes run.inputs) l run.stage run.change run.first.items
     (length (opened_file_names run.names) + 1)
-    (raws (at.depth + 1) at.may_match (lines_in (length (opened_file_names run.names)) (l' reader)) ++ things_of l run)
-    ≡ events_to_come
-    t' l' run'
-coming_opened t t' l l' run run' reader name at texts left only names settled opens stays =
+    (raws (at.depth + 1) at.may_match (lines_in (length (opened_file_names run.names)) (l reader)) ++ things_of l run)
+    ≡ events_to_come t l run'
+coming_opened t l run run' reader name at only names settled opens stays =
     let count : length (opened_file_names run'.names) ≡ length (opened_file_names run.names) + 1 =
     simp (names, length-append) in
     let things = opened_in l run.stage (lines_at l run.change) run.stack run'.stack reader
     (length (opened_file_names run.names)) at settled run.floor opens stays in
-    sym ((λ i. coming_of (texts i) (optional_string_bytes (only.inputs i)) (left i) (only.stage i) (only.change i)
-    ((only.first i).items) (count i) (things_in (left i) (only.stage i) (lines_at (left i) (only.change i)) run'.stack))
+    sym ((λ i. coming_of t (optional_string_bytes (only.inputs i)) l (only.stage i) (only.change i)
+    ((only.first i).items) (count i) (things_in l (only.stage i) (lines_at l (only.change i)) run'.stack))
     ∙ ap (λ (ts : List Thing). coming_of t (optional_string_bytes run.inputs) l run.stage run.change run.first.items
-    (length (opened_file_names run.names) + 1) ts)
-    (things ∙ ap (λ k. raws (at.depth + 1) at.may_match (lines_in (length (opened_file_names run.names)) (k reader))
-    ++ things_of l run) (sym left)))
+    (length (opened_file_names run.names) + 1) ts) things)
 
-pub yields_reported : {R : Type 0} (t t' : List ℕ → Option (List ℕ)) (l l' : R
-    → List ℕ) (run run' : MergeState R) (f : SourceFault)
-    → t' ≡ t → l' ≡ l → OnlyReports run run' → run'.faults.items ≡ run.faults.items ++ f ∷ []
-    → EmitsLines [] (so_far_of run) (so_far_of run') (fault f ∷ events_to_come t l run) (events_to_come t' l' run')
-yields_reported t t' l l' run run' f texts left only reported = yields_fault (so_far_of run) (so_far_of run') _ _
-    (ap counters_of
-    only.limits) f (sym (λ i. fault f
-    ∷ coming_of (texts i) (optional_string_bytes (only.inputs i)) (left i) (only.stage i)
+pub yields_reported : {R : Type 0} (t : List ℕ → Option (List ℕ)) (l : R → List ℕ) (run run' : MergeState R)
+    (f : SourceFault) → OnlyReports run run' → run'.faults.items ≡ run.faults.items ++ f ∷ []
+    → EmitsLines [] (so_far_of run) (so_far_of run') (fault f ∷ events_to_come t l run) (events_to_come t l run')
+yields_reported t l run run' f only reported = yields_fault (so_far_of run) (so_far_of run') _ _
+    (ap counters_of only.limits) f (sym (λ i. fault f
+    ∷ coming_of t (optional_string_bytes (only.inputs i)) l (only.stage i)
     (only.change i) ((only.first i).items) (length (opened_file_names (only.names i)))
-    (things_in (left i) (only.stage i)
-    (lines_at (left i) (only.change i)) (only.stack i)))) reported (ap opened_file_names only.names)
+    (things_in l (only.stage i) (lines_at l (only.change i)) (only.stack i))))
+    reported (ap opened_file_names only.names)
 
 pub no_match : {R : Type 0} (t : List ℕ → Option (List ℕ)) (l : R → List ℕ) (run : MergeState R) (begin : Place) →
     run.stage ≡ Waiting begin → run.stack.depth ≡ 0 → events_to_come t l run ≡ fault (at_place NoMatch begin) ∷ []

@@ -95,9 +95,9 @@ module _ {R : Type 0} (t : List ℕ → Option (List ℕ)) (l : R → List ℕ) 
   coming_is = search rules
 
 -- The events of a new line, by the contracts of the calls.
-module _ {R : Type 0} {t t' : List ℕ → Option (List ℕ)} {l l' : R → List ℕ} {run mid : MergeState R} {change : Change}
-    (stage : run.stage ≡ Changing change) (low : run.stack.depth ≡ change.below) (texts : t' ≡ t) (left : l' ≡ l)
-    (only : OnlyTakes run mid) (stack : mid.stack ≡ run.stack) where
+module _ {R : Type 0} (t : List ℕ → Option (List ℕ)) (l : R → List ℕ) {run mid : MergeState R} {change : Change}
+    (stage : run.stage ≡ Changing change) (low : run.stack.depth ≡ change.below) (only : OnlyTakes run mid)
+    (stack : mid.stack ≡ run.stack) where
   abbrev world : World
   world = world_in t run.inputs
 
@@ -109,16 +109,16 @@ module _ {R : Type 0} {t t' : List ℕ → Option (List ℕ)} {l l' : R → List
 
   later_is : (new : MergeState R) → new.inputs ≡ run.inputs → new.stack ≡ run.stack → new.names ≡ run.names → (prefix :
       List Thing → List Thing) (lines : List SourceLine) → merge world (state (prefix under) None lines files) ≡ merge
-      (world_in t' new.inputs)
-      (state (prefix (things_above l' 0 new.stack [])) None lines (length (opened_file_names new.names)))
+      (world_in t new.inputs)
+      (state (prefix (things_above l 0 new.stack [])) None lines (length (opened_file_names new.names)))
   later_is new inputs stack names prefix lines = search rules
 
   pub new_ended : (new : MergeState R) → OnlyReports mid new
       → change_lines l run ≡ [] → counters_of new.limits ≡ counters_of run.limits → new.faults.items ≡ mid.faults.items
       ++ at_place EndedBeforeZ change.begin ∷ []
       → EmitsLines [] (so_far_of run) (so_far_of new) (events_to_come t l run)
-      (merge (world_in t' new.inputs)
-      (state (things_above l' 0 new.stack []) None [] (length (opened_file_names new.names))))
+      (merge (world_in t new.inputs)
+      (state (things_above l 0 new.stack []) None [] (length (opened_file_names new.names))))
   new_ended new tells none count is = yields_fault (so_far_of run) (so_far_of new) _ _ count
       (at_place EndedBeforeZ change.begin) (coming_is t l run change stage low ∙ new_none world change under files
       (change_lines l run) none ∙ ap (λ (es : List Event). fault (at_place EndedBeforeZ change.begin) ∷ es)
@@ -136,35 +136,35 @@ module _ {R : Type 0} {t t' : List ℕ → Option (List ℕ)} {l l' : R → List
 
     pub new_side_ended : (rest : List SourceLine) → change_lines l run ≡ taken.line ∷ rest → change_code bytes
         ≡ Some end_side → EmitsLines [] (so_far_of run) (so_far_of mid) (events_to_come t l run)
-        (merge (world_in t' mid.inputs)
-        (state (seek ∷ things_above l' 0 mid.stack []) None rest (length (opened_file_names mid.names))))
+        (merge (world_in t mid.inputs)
+        (state (seek ∷ things_above l 0 mid.stack []) None rest (length (opened_file_names mid.names))))
     new_side_ended rest is test = subst (λ (es : List Event). EmitsLines [] (so_far_of run) (so_far_of mid) es
-        (merge (world_in t' mid.inputs)
-        (state (seek ∷ things_above l' 0 mid.stack []) None rest (length (opened_file_names mid.names)))))
+        (merge (world_in t mid.inputs)
+        (state (seek ∷ things_above l 0 mid.stack []) None rest (length (opened_file_names mid.names)))))
         (sym (first rest is
         ∙ new_end world change under files taken.line rest bytes place taken.is test ∙ ap (λ (es : List Event).
         took taken.line ∷ es) (later_is mid only.inputs stack only.names (λ ts. seek ∷ ts) rest))) (one _)
 
-    pub new_faulty : (new : MergeState R) → OnlyReports mid new → change_lines l run ≡ taken.line ∷ change_lines l' mid
+    pub new_faulty : (new : MergeState R) → OnlyReports mid new → change_lines l run ≡ taken.line ∷ change_lines l mid
         → (code :
         Code) → change_code bytes ≡ Some code → sameb the_type code end_side ≡ false
         → new.faults.items ≡ mid.faults.items
         ++ at_place WantsZ place ∷ []
-        → EmitsLines [] (so_far_of run) (so_far_of new) (events_to_come t l run) (events_to_come t' l' new)
+        → EmitsLines [] (so_far_of run) (so_far_of new) (events_to_come t l run) (events_to_come t l new)
     new_faulty new tells rest code test other is =
-        let more : coming_new world change (change_lines l' mid) under files ≡ events_to_come t' l' new =
-        sym (coming_is t' l' new change (tells.stage ∙ only.stage ∙ stage) (ap (λ (s : Stack R). s.depth)
-        (tells.stack ∙ stack) ∙ low) ∙ (λ i. coming_new (world_in (texts i) ((tells.inputs ∙ only.inputs) i)) change
-        (lines_at l' (tells.change i)) (things_over (left i) 0 change.below (((tells.stack ∙ stack) i).texts) [])
+        let more : coming_new world change (change_lines l mid) under files ≡ events_to_come t l new =
+        sym (coming_is t l new change (tells.stage ∙ only.stage ∙ stage) (ap (λ (s : Stack R). s.depth)
+        (tells.stack ∙ stack) ∙ low) ∙ (λ i. coming_new (world_in t ((tells.inputs ∙ only.inputs) i)) change
+        (lines_at l (tells.change i)) (things_over l 0 change.below (((tells.stack ∙ stack) i).texts) [])
         (length (opened_file_names ((tells.names ∙ only.names) i))))) in
         let all = first _ rest
-        ∙ new_fault world change under files taken.line (change_lines l' mid) bytes place taken.is code test other
+        ∙ new_fault world change under files taken.line (change_lines l mid) bytes place taken.is code test other
         ∙ ap (λ (es : List Event). took taken.line ∷ fault (at_place WantsZ place) ∷ es) more in
-        subst (λ (es : List Event). EmitsLines [] (so_far_of run) (so_far_of new) es (events_to_come t' l' new))
+        subst (λ (es : List Event). EmitsLines [] (so_far_of run) (so_far_of new) es (events_to_come t l new))
         (sym all) (yields_both [] [] _ (so_far_of mid) _ _ _ _ (one _) (yields_fault (so_far_of mid) (so_far_of new) _ _
         (ap counters_of tells.limits) (at_place WantsZ place) refl is (ap opened_file_names tells.names)))
 
-    pub new_first : change_lines l run ≡ taken.line ∷ change_lines l' mid → change_code bytes ≡ None
+    pub new_first : change_lines l run ≡ taken.line ∷ change_lines l mid → change_code bytes ≡ None
         → events_to_come t l run
-        ≡ events_after_line t' l' mid (record { place = place; depth = change.depth; may_match = false }) taken.line
+        ≡ events_after_line t l mid (record { place = place; depth = change.depth; may_match = false }) taken.line
     new_first rest test = search rules

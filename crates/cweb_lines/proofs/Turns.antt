@@ -45,37 +45,35 @@ module _ {R : Type 0} (t : List ℕ → Option (List ℕ)) (l : R
       (stopped_more stop _ new found.events after_search
       (reads_next _ _ _ _ _ (above_first l 0 run.stack [] tt)) stopped)
 
-  pub sought_yields : (t' : List ℕ → Option (List ℕ)) (l' : R → List ℕ) (run' : MergeState R) → t' ≡ t → l' ≡ l
-      → run'.inputs ≡ run.inputs → run'.stack ≡ run.stack → run'.names ≡ run.names → Searched found (so_far_of run)
-      (so_far_of run') run'.stage run'.first.items (change_lines l' run')
-      → EmitsLines [] (so_far_of run) (so_far_of run') (events_to_come t l run) (events_to_come t' l' run')
-  sought_yields t' l' run' texts left inputs stack names ends =
-      let later : after_search ≡ events_to_come t' l' run' = sym (ap (λ (things : List Thing). coming_of t'
-      (optional_string_bytes run'.inputs) l' run'.stage run'.change
+  pub sought_yields : (run' : MergeState R) → run'.inputs ≡ run.inputs → run'.stack ≡ run.stack → run'.names ≡ run.names → Searched found (so_far_of run)
+      (so_far_of run') run'.stage run'.first.items (change_lines l run')
+      → EmitsLines [] (so_far_of run) (so_far_of run') (events_to_come t l run) (events_to_come t l run')
+  sought_yields run' inputs stack names ends =
+      let later : after_search ≡ events_to_come t l run' = sym (ap (λ (things : List Thing). coming_of t
+      (optional_string_bytes run'.inputs) l run'.stage run'.change
       run'.first.items (length (opened_file_names run'.names)) things)
-      (outside_things l' run'.stage (change_lines l' run')
-      run'.stack ends.outside) ∙ (λ i. merge (world_in (texts i) (inputs i)) (state (things_above (left i) 0
+      (outside_things l run'.stage (change_lines l run') run'.stack ends.outside)
+      ∙ (λ i. merge (world_in t (inputs i)) (state (things_above l 0
       (stack i) []) (ends.entry i) (ends.rest i) (length (opened_file_names (names i)))))) in
-      subst (λ (es : List Event). EmitsLines [] (so_far_of run) (so_far_of run') es (events_to_come t' l' run'))
+      subst (λ (es : List Event). EmitsLines [] (so_far_of run) (so_far_of run') es (events_to_come t l run'))
       (sym sought_first) (subst (λ (es : List Event). EmitsLines [] (so_far_of run) (so_far_of run')
       (found.events ++ after_search) es) later (yields_more after_search ends.yields))
 
-pub raw_taken : {R : Type 0} (t t' : List ℕ → Option (List ℕ)) (l l' : R
-    → List ℕ) (old new : MergeState R) (at : LineAt)
-    (bytes : List ℕ) → t' ≡ t → l' ≡ l → IsSettled old.stage → TakesAbove l l' (floor_of old.stage) old.stack new.stack
+pub raw_taken : {R : Type 0} (t : List ℕ → Option (List ℕ)) (l : R → List ℕ) (old new : MergeState R) (at : LineAt)
+    (bytes : List ℕ) → IsSettled old.stage → TakesAbove l (floor_of old.stage) old.stack new.stack
     (Some at) bytes (counters_of old.limits) (counters_of new.limits)
     → StaysBelow (floor_of old.stage) old.stack.texts new.stack.texts → OnlyTakes old new → new.change ≡ old.change
     → (taken : CountsLine bytes at.place (counters_of old.limits) (counters_of new.limits))
-    × (events_to_come t l old ≡ events_after_line t' l' new at taken.line)
-raw_taken t t' l l' old new at bytes texts left settled takes stays only change =
-    let taken = takes_in l l' left old.stage (change_lines l old) old.stack new.stack (Some at) bytes
+    × (events_to_come t l old ≡ events_after_line t l new at taken.line)
+raw_taken t l old new at bytes settled takes stays only change =
+    let taken = takes_in l old.stage (change_lines l old) old.stack new.stack (Some at) bytes
     (counters_of old.limits) (counters_of new.limits) settled takes stays in (
       taken.0,
       ap (λ (ts : List Thing). coming_of t (optional_string_bytes old.inputs) l old.stage old.change old.first.items
           (length (opened_file_names old.names)) ts) taken.1
-          ∙ sym (λ i. coming_of (texts i) (optional_string_bytes (only.inputs i)) (left i) (only.stage i) (change i)
+          ∙ sym (λ i. coming_of t (optional_string_bytes (only.inputs i)) l (only.stage i) (change i)
           ((only.first i).items) (length (opened_file_names (only.names i))) (raw_thing at taken.0.line
-          ∷ things_in l' (only.stage i) (lines_at (left i) (change i)) new.stack)),
+          ∷ things_in l (only.stage i) (lines_at l (change i)) new.stack)),
     )
 
 begun_entry : (p : Option WaitingEntry) (may_match : Bool) (bytes : List ℕ) (place : Place) →
@@ -157,15 +155,14 @@ module _ {R : Type 0} (t : List ℕ → Option (List ℕ)) (l : R → List ℕ) 
     began_stops stop new stops =
         stopped_after stop (so_far_of old) (so_far_of run) new all _ one (stops begin later)
 
-    pub began_yields : (t' : List ℕ → Option (List ℕ)) (l' : R → List ℕ) (new : MergeState R) → t' ≡ t
-        → new.inputs ≡ run.inputs
-        → new.names ≡ run.names → IsChanged begin at.depth side new.stage (change_lines l' new)
-        (things_of l' new) (so_far_of run) (so_far_of new)
-        → EmitsLines [] (so_far_of old) (so_far_of new) all (events_to_come t' l' new)
-    began_yields t' l' new texts inputs names changed =
-        let same : later ≡ events_to_come t' l' new = sym (ap (λ s. merge (world_in t' new.inputs) s)
+    pub began_yields : (new : MergeState R) → new.inputs ≡ run.inputs
+        → new.names ≡ run.names → IsChanged begin at.depth side new.stage (change_lines l new)
+        (things_of l new) (so_far_of run) (so_far_of new)
+        → EmitsLines [] (so_far_of old) (so_far_of new) all (events_to_come t l new)
+    began_yields new inputs names changed =
+        let same : later ≡ events_to_come t l new = sym (ap (λ s. merge (world_in t new.inputs) s)
         (changed.after (length (opened_file_names new.names)) new.first.items)
-        ∙ (λ i. later_old (world_in (texts i) (inputs i)) (length (opened_file_names (names i))) at.depth begin)) in
+        ∙ (λ i. later_old (world_in t (inputs i)) (length (opened_file_names (names i))) at.depth begin)) in
         yields_both [] [] (so_far_of old) (so_far_of run) (so_far_of new) _ _ _ one
         (subst (λ (es : List Event).
         EmitsLines [] (so_far_of run) (so_far_of new) (change_events begin side ++ later) es) same (yields_more later changed.yields))

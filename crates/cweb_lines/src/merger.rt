@@ -1,9 +1,9 @@
 // The merged lines of a web, one after another.
-ghost use Rattle.std.specs.Prelude.{◌≡◌, ◌≤◌, ◌<◌, ◌+◌, ◌^◌, ℕ, List, length, IsTrue};
+ghost use Rattle.std.specs.Prelude.{◌≡◌, ◌≤◌, ◌<◌, ◌+◌, ◌^◌, ℕ, List, length};
 ghost use Rattle.std.specs.Prelude.{IfOk, Ok, Err, IfErr, IfSome};
 ghost use Rattle.std.specs.Prelude.{None, Some, All};
 ghost use Rattle.std.specs.Option.{option_copied};
-ghost use Rattle.cweb_files.specs.surface.Frames.{KeepsShelf};
+ghost use Rattle.cweb_files.specs.Shelves.{Observed};
 ghost use Rattle.cweb_input.specs.Include.{web_at, change_at};
 ghost use Rattle.cweb_lines.specs.inner.LineSpans.{IsSpanIn, span_bytes};
 ghost use Rattle.cweb_input.specs.surface.OpenedFileNames.{opened_file_names};
@@ -52,20 +52,18 @@ impl<S: Shelf> Merger<S> {
         change: Option<&str>,
         inputs: Option<&str>,
     ) -> Result<Self, Stop>
-        ensures keeps { KeepsShelf S.Shelf shelf.old shelf.new }
-        ensures failed { S.failed shelf.new ≡ S.failed shelf.old }
+        ensures same { S.model shelf.new ≡ S.model shelf.old }
         ensures running { IfOk result (λ merger. stop_in merger ≡ None) }
-        ensures begins { IsTrue (S.tells shelf.old) → IfOk result (λ merger. BeginsMerge
-            (record { texts = S.texts shelf.old; inputs = option_copied inputs.entry })
-            (web_at (S.texts shelf.old) web.now (option_copied second.entry))
-            (change_at (S.texts shelf.old) (option_copied change.entry))
-            (so_far merger) (to_come S.Shelf shelf.new merger)) }
-        ensures stops { IsTrue (S.tells shelf.old) → IfErr result (λ stop. StopsAtStart stop
-            (web_at (S.texts shelf.old) web.now (option_copied second.entry))
-            (change_at (S.texts shelf.old) (option_copied change.entry))) }
-        ensures readers { IsTrue (S.tells shelf.old) →
-            IfOk result (λ merger. KnowsReaders S.Shelf shelf.new merger) }
-        ensures blamed { IsTrue (S.tells shelf.old) → S.blamed shelf.new ≡ S.blamed shelf.old }
+        ensures begins { Observed (S.model shelf.old) (λ seen. IfOk result (λ merger. BeginsMerge
+            (record { texts = seen.texts; inputs = option_copied inputs.entry })
+            (web_at seen.texts web.now (option_copied second.entry))
+            (change_at seen.texts (option_copied change.entry))
+            (so_far merger) (to_come seen merger))) }
+        ensures stops { Observed (S.model shelf.old) (λ seen. IfErr result (λ stop. StopsAtStart stop
+            (web_at seen.texts web.now (option_copied second.entry))
+            (change_at seen.texts (option_copied change.entry)))) }
+        ensures readers { Observed (S.model shelf.old) (λ seen.
+            IfOk result (λ merger. KnowsReaders seen merger)) }
         ensures only { IfErr result (λ stop. StartStops stop) }
     {
         let inputs = owned(alloc, inputs)?;
@@ -103,15 +101,14 @@ impl<S: Shelf> Merger<S> {
     /// The next merged line, without its newline, and its place. At the end it is `None`, and stays so. After a stop
     /// each further call returns the same stop and leaves `line` empty.
     pub fn next_line(&mut self, shelf: &mut S, line: &mut Vec<u8>) -> Result<Option<Place>, Stop>
-        requires { S.failed shelf.old + 1 < 2 ^ 64 }
-        ensures keeps { KeepsShelf S.Shelf shelf.old shelf.new }
+        requires { (S.model shelf.old).failed + 1 < 2 ^ 64 }
         ensures grows { Grows (so_far self.old) (so_far self.new) }
         ensures leaves { LeavesMerger result line.new.items self.new }
 
         // the next line, or none
-        ensures next { IsTrue (S.tells shelf.old) →
+        ensures next { Observed (S.model shelf.old) (λ seen.
             IfOk result (λ place. NextLine place line.new.items (so_far self.old) (so_far self.new)
-            (to_come S.Shelf shelf.old self.old) (to_come S.Shelf shelf.new self.new)) }
+            (to_come seen self.old) (to_come seen self.new))) }
         ensures emitted { IfOk result (λ place. IfSome place (λ p. EmitsLine p line.new.items
             (so_far self.old) (so_far self.new))) }
         ensures ended { stop_in self.old ≡ None → HasEnded self.old →
@@ -119,12 +116,12 @@ impl<S: Shelf> Merger<S> {
 
         // why there is no result
         ensures blames { stop_in self.old ≡ None →
-            ReportsReadFailures (S.failed shelf.old) (S.failed shelf.new) result }
-        ensures stops { IsTrue (S.tells shelf.old) → stop_in self.old ≡ None →
+            ReportsReadFailures (S.model shelf.old) (S.model shelf.new) result }
+        ensures stops { Observed (S.model shelf.old) (λ seen. stop_in self.old ≡ None →
             IfErr result (λ stop. StopsThere stop (so_far self.old) (so_far self.new)
-            (to_come S.Shelf shelf.old self.old)) }
-        ensures known { IsTrue (S.tells shelf.old) → KnowsReaders S.Shelf shelf.old self.old →
-            StaysKnown S.Shelf shelf.old shelf.new self.old self.new result }
+            (to_come seen self.old))) }
+        ensures known { Observed (S.model shelf.old) (λ seen. KnowsReaders seen self.old →
+            StaysKnown seen (S.model shelf.old) (S.model shelf.new) self.old self.new result) }
         ensures again { IfSome (stop_in self.old) (λ stop.
             (result ≡ Err stop) × (self.new ≡ self.old) × (shelf.new ≡ shelf.old)) }
     {

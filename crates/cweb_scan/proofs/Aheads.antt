@@ -1,5 +1,6 @@
 -- Lines are read before they are taken.
-use Rattle.cweb_scan.proofs.Common.{◌≡◌, ◌≤◌, ◌<◌, ℕ, ◌+◌, ◌*◌, Bool, List, [], ◌∷◌, ◌++◌, length, Option, None, Some, refl, ap, sym, ◌∙◌, subst, arith, IsTrue, append_assoc, length-append, All-append, All-nil, All-push, LooksAhead, TakesLines, span_bytes, Line, Event, SoFar, so_far_of, opened_file_names, lines_next, with_newlines, top_of, Ahead, MergeState, OpenSource, ReaderModel, cost, read_after, web_size, read_lines, AreLinesBelow, HasTaken, yields_both}
+use Rattle.cweb_files.specs.Shelves.{Observed, ShelfContents, ShelfModel}
+use Rattle.cweb_scan.proofs.Common.{◌≡◌, ◌≤◌, ◌<◌, ℕ, ◌+◌, ◌*◌, Bool, List, [], ◌∷◌, ◌++◌, length, Option, None, Some, refl, ap, sym, ◌∙◌, subst, arith, append_assoc, length-append, All-append, All-nil, All-push, LooksAhead, TakesLines, span_bytes, Line, Event, SoFar, so_far_of, opened_file_names, lines_next, with_newlines, top_of, Ahead, MergeState, OpenSource, ReaderModel, cost, read_after, web_size, read_lines, AreLinesBelow, HasTaken, yields_both}
 use Rattle.cweb_lines.specs.surface.MergeProgress.{EmitsLines}
 use Rattle.cweb_lines.proofs.LinesInBuffer.{standing-append}
 use Rattle.cweb_scan.specs.inner.Ahead.{ReadsLines}
@@ -62,12 +63,13 @@ read_more run lines ahead old mid new looks first reads adds = record {
     )
 
 -- The lines that were read are taken.
-pub read_taken : {R : Type 0} (old new : MergeState R) (lines : List (List ℕ)) (tells : Bool) (first : SoFar)
-    (all now later : List Event) (pending next : ReaderModel) → TakesLines lines old new
+pub read_taken : {R : Type 0} (old new : MergeState R) (lines : List (List ℕ)) (shelf : ShelfModel R) (first : SoFar)
+    (all now later : ShelfContents R → List Event) (pending next : ReaderModel) → TakesLines lines old new
     → ReadsLines old lines pending next
-    → (IsTrue tells → EmitsLines (lines_next (top_of old.stack) lines) (so_far_of old) (so_far_of new) now later)
-    → HasTaken tells first (so_far_of old) all now pending → HasTaken tells first (so_far_of new) all later next
-read_taken old new lines tells first all now later pending next takes reads yields taken = record {
+    → Observed shelf (λ seen. EmitsLines (lines_next (top_of old.stack) lines) (so_far_of old) (so_far_of new)
+    (now seen) (later seen))
+    → HasTaken shelf first (so_far_of old) all now pending → HasTaken shelf first (so_far_of new) all later next
+read_taken old new lines shelf first all now later pending next takes reads yields taken = record {
   lines = taken.lines ++ more_lines;
   read_is = λ more. reads.read more ∙ taken.read_is (more_lines ++ more)
       ∙ ap read_lines (sym (append_assoc taken.lines more_lines more));
@@ -77,9 +79,8 @@ read_taken old new lines tells first all now later pending next takes reads yiel
       (wider (length (opened_file_names old.names))
       (length (opened_file_names new.names)) more_lines names reads.below);
   few = omega (arith, web_size-append taken.lines more_lines, taken.few, reads.few, takes.bytes, takes.count);
-  yields = λ reported. yields_both taken.lines more_lines first (so_far_of old) (so_far_of new) all now later
-      (taken.yields reported)
-      (yields reported);
+  yields = λ seen it. yields_both taken.lines more_lines first (so_far_of old) (so_far_of new) (all seen) (now seen)
+      (later seen) (taken.yields seen it) (yields seen it);
 }
   where
     more_lines : List Line

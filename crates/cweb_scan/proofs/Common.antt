@@ -19,10 +19,7 @@ pub use Rattle.std.specs.List.{fold, prefix_len, flat_map, list_all, slice_get}
 pub use Rattle.std.specs.Option.{is_some}
 pub use Rattle.std.specs.Prelude.{IsTrue, option_to_list, if◌then◌else◌, codes, nat_lt, bytes_eq, option_map, All}
 pub use Rattle.cweb_files.specs.declared.place.Place.{Place}
-pub use Rattle.cweb_files.specs.surface.Frames.{KeepsShelf}
 pub use Rattle.cweb_input.specs.Lines.{Line}
-pub use Rattle.cweb_input.specs.surface.ReaderNames.{blame}
-pub use Rattle.cweb_input.specs.surface.OpenSources.{read_failures_of}
 pub use Rattle.cweb_input.specs.declared.limits.TheConstants.{LINES, BYTES}
 pub use Rattle.cweb_input.specs.declared.open_source.OpenSource.{OpenSource}
 pub use Rattle.cweb_input.specs.declared.stop.Stop.{Stop}

@@ -1,5 +1,6 @@
 -- Scanning the lines of a merger.
-use Rattle.cweb_scan.proofs.Common.{◌≡◌, ◌≤◌, ◌<◌, ℕ, ◌+◌, Bool, true, List, [], ◌∷◌, ◌++◌, length, refl, ap, sym, ◌∙◌, subst, arith, IsTrue, nat_lt, ltb-true, lt-ltb, append-nil, append_assoc, All-nil, All-push, All-weaker, Place, Line, HasNoNewline, Event, KeepsReported, SoFar, Stopped, StopsFor, blame, emitted_lines, EmitsLine, Grows, StopsThere, LINES, BYTES, Stop, ReadFault, LineTooLong, TooMuchText, Memory, Token, Mark, all_tokens, IsLine, ScanFault, Reading, ReaderModel, read_after, new_reader, IsBounded, MarkPasses, web_size, Scanned, read_lines, scanned, scanned_of, AreLinesBelow, IsScanBelow, IsMarkBelow, HasTaken, ScansWithinLimits, Scans, StopsAfter, ScanEndsEarly}
+use Rattle.cweb_scan.proofs.Common.{◌≡◌, ◌≤◌, ◌<◌, ℕ, ◌+◌, Bool, true, List, [], ◌∷◌, ◌++◌, length, refl, ap, sym, ◌∙◌, subst, arith, nat_lt, ltb-true, lt-ltb, append-nil, append_assoc, All-nil, All-push, All-weaker, Place, Line, HasNoNewline, Event, KeepsReported, SoFar, Stopped, StopsFor, emitted_lines, EmitsLine, Grows, StopsThere, LINES, BYTES, Stop, ReadFault, LineTooLong, TooMuchText, Memory, Token, Mark, all_tokens, IsLine, ScanFault, Reading, ReaderModel, read_after, new_reader, IsBounded, MarkPasses, web_size, Scanned, read_lines, scanned, scanned_of, AreLinesBelow, IsScanBelow, IsMarkBelow, HasTaken, ScansWithinLimits, Scans, StopsAfter, ScanEndsEarly}
+use Rattle.cweb_files.specs.Shelves.{Observed, ShelfContents, ShelfModel}
 use Rattle.cweb_lines.specs.surface.MergeProgress.{EmitsLines}
 use Rattle.cweb_lines.proofs.ReportsOnlyGrow.{reported_then}
 use Rattle.cweb_lines.proofs.Merges.{yields_nothing}
@@ -12,13 +13,14 @@ pub is_line : (t : List ℕ) → HasNoNewline t → IsLine t
 is_line [] h = tt
 is_line (b ∷ t) h = (h.0, is_line t h.1)
 
-pub nothing_taken : (tells : Bool) (so : SoFar) (all : List Event) → HasTaken tells so so all all new_reader
-nothing_taken tells so all = record {
+pub nothing_taken : {R : Type 0} (shelf : ShelfModel R) (so : SoFar) (all : ShelfContents R → List Event)
+    → HasTaken shelf so so all all new_reader
+nothing_taken shelf so all = record {
   lines = [];
   read_is = λ more. refl;
   below = All-nil (λ (line : Line). line.place.file.0 < length so.names);
   few = omega arith;
-  yields = λ reported. yields_nothing so so all all refl refl refl refl;
+  yields = λ seen it. yields_nothing so so (all seen) (all seen) refl refl refl refl;
 }
 
 pub web_size-append : (a b : List Line) → web_size (a ++ b) ≡ web_size a + web_size b
@@ -30,21 +32,22 @@ wider files more lines h below = All-weaker (λ (line : Line). line.place.file.0
     (λ line. line.place.file.0 < more) (λ line k. omega (arith, h, k)) lines below
 
 -- One more line.
-pub emitted_line_taken : (tells : Bool) (old so new : SoFar) (all now later : List Event) (pending next : ReaderModel)
-    (line : Line)
-    → HasTaken tells old so all now pending → EmitsLine line.place line.bytes so new
+pub emitted_line_taken : {R : Type 0} (shelf : ShelfModel R) (old so new : SoFar)
+    (all now later : ShelfContents R → List Event) (pending next : ReaderModel) (line : Line)
+    → HasTaken shelf old so all now pending → EmitsLine line.place line.bytes so new
     → length so.names ≤ length new.names
     → ((more : List Line) → read_after next more ≡ read_after pending (line ∷ more))
-    → (IsTrue tells → EmitsLines (line ∷ []) so new now later) → HasTaken tells old new all later next
-emitted_line_taken tells old so new all now later pending next line taken emitted names reads yields = record {
+    → Observed shelf (λ seen. EmitsLines (line ∷ []) so new (now seen) (later seen))
+    → HasTaken shelf old new all later next
+emitted_line_taken shelf old so new all now later pending next line taken emitted names reads yields = record {
   lines = taken.lines ++ line ∷ [];
   read_is = λ more.
       reads more ∙ taken.read_is (line ∷ more) ∙ ap read_lines (sym (append_assoc taken.lines (line ∷ []) more));
   below = All-push (λ (line : Line). line.place.file.0 < length new.names) taken.lines line
       (wider (length so.names) (length new.names) taken.lines names taken.below) emitted.known;
   few = omega (arith, web_size-append taken.lines (line ∷ []), taken.few, emitted.lines, emitted.bytes_are);
-  yields = λ reported. yields_both taken.lines (line ∷ []) old so new all now later (taken.yields reported)
-      (yields reported);
+  yields = λ seen it. yields_both taken.lines (line ∷ []) old so new (all seen) (now seen) (later seen)
+      (taken.yields seen it) (yields seen it);
 }
 
 -- If all lines are in the first files, so are all Marks and faults.
@@ -73,10 +76,10 @@ of_taken : (pending : ReaderModel) (lines : List Line)
     → scanned_of (read_after pending []).state ≡ scanned lines
 of_taken pending lines reads = ap (λ (r : Reading). scanned_of r.state) (reads [] ∙ ap read_lines (append-nil lines))
 
-pub all_within : (tells : Bool) (old so new : SoFar) (all now : List Event) (pending : ReaderModel) (s : Scanned)
-    → HasTaken tells old so all now pending → s ≡ scanned_of (read_after pending []).state
+pub all_within : {R : Type 0} (shelf : ShelfModel R) (old so new : SoFar) (all now : ShelfContents R → List Event)
+    (pending : ReaderModel) (s : Scanned) → HasTaken shelf old so all now pending → s ≡ scanned_of (read_after pending []).state
     → length so.names ≤ length new.names → so.count.bytes ≤ BYTES → so.count.lines ≤ LINES → ScansWithinLimits new s
-all_within tells old so new all now pending s taken is names few_bytes few_lines =
+all_within shelf old so new all now pending s taken is names few_bytes few_lines =
     let same : s ≡ scanned taken.lines = is ∙ of_taken pending taken.lines taken.read_is in
     let opened = wider (length so.names) (length new.names) taken.lines names taken.below in
     record {
@@ -142,9 +145,3 @@ grows_then a b c reported grows =
 
 pub grows_to : (a b c : SoFar) → c ≡ b → Grows a b → Grows a c
 grows_to a b c same grows = subst (λ (s : SoFar). Grows a s) (sym same) grows
-
--- A failed allocation blames no file.
-pub none_blamed : (names before now : List (List ℕ)) (stop : Stop)
-    → stop ≡ Memory → now ≡ before → now ≡ before ++ blame names stop
-none_blamed names before now stop is same =
-    subst (λ (s : Stop). now ≡ before ++ blame names s) (sym is) (same ∙ sym (append-nil before))

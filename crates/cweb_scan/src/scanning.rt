@@ -1,13 +1,13 @@
 // Scans all lines of a merger.
-ghost use Rattle.std.specs.Prelude.{◌≡◌, ℕ, List, Bool, Option, [], ◌<◌, ◌+◌, ◌*◌, ◌^◌, ◌≤◌};
-ghost use Rattle.std.specs.Prelude.{length, IsTrue, Err, IfErr, IfOk, IfSome, OnOk, None, Some};
-ghost use Rattle.cweb_files.specs.surface.Frames.{KeepsShelf};
+ghost use Rattle.std.specs.Prelude.{◌≡◌, ℕ, List, [], ◌<◌, ◌+◌, ◌*◌, ◌^◌, ◌≤◌};
+ghost use Rattle.std.specs.Prelude.{length, Err, IfErr, IfOk, IfSome, OnOk, None, Some};
+ghost use Rattle.cweb_files.specs.Shelves.{Observed, ShelfContents, ShelfModel};
 ghost use Rattle.cweb_lines.specs.inner.Ahead.{IsAhead, LooksAhead};
 ghost use Rattle.cweb_lines.specs.inner.LineSpans.{BorrowsLines};
 ghost use Rattle.cweb_lines.specs.Events.{Event};
-ghost use Rattle.cweb_lines.specs.surface.MergeProgress.{SoFar, events_to_come};
+ghost use Rattle.cweb_lines.specs.surface.MergeProgress.{SoFar};
 ghost use Rattle.cweb_input.specs.surface.OpenSources.{files_named};
-ghost use Rattle.cweb_input.specs.surface.ReaderNames.{BlamesFile};
+ghost use Rattle.cweb_input.specs.surface.ReaderNames.{BlamesFile, ReadsShelf, name_of_file};
 ghost use Rattle.cweb_lines.specs.surface.MergerCalls.{to_come, so_far, stop_in, HasEnded, Grows};
 ghost use Rattle.cweb_lines.specs.surface.MergerCalls.{KnowsReaders};
 ghost use Rattle.cweb_names.specs.surface.Names.{too_many};
@@ -58,10 +58,10 @@ fn read_ahead<S: Shelf>(
 fn take_borrowed<S: Shelf>(merger: &mut Merger<S>, reader: &mut Reader) -> Result<(), AllocError>
     requires { let so = (so_far merger.old).count in cost reader.old ≤ 3 * (so.bytes + so.lines) }
     ensures borrowed { BorrowsLines merger.old.run merger.new.run }
-    ensures taken { OnOk result ((tells : Bool) → (first : SoFar) → (all : List Event) →
-        (texts : List ℕ → Option (List ℕ)) → (left : S.R → List ℕ) →
-        HasTaken tells first (so_far merger.old) all (events_to_come texts left merger.old.run) reader.old →
-        HasTaken tells first (so_far merger.new) all (events_to_come texts left merger.new.run) reader.new) }
+    ensures taken { OnOk result ((shelf : ShelfModel S.R) → (first : SoFar) →
+        (all : ShelfContents S.R → List Event) →
+        HasTaken shelf first (so_far merger.old) all (λ seen. to_come seen merger.old) reader.old →
+        HasTaken shelf first (so_far merger.new) all (λ seen. to_come seen merger.new) reader.new) }
     ensures cost { let so = (so_far merger.new).count in
         OnOk result (cost reader.new ≤ 3 * (so.bytes + so.lines)) }
 {
@@ -79,23 +79,23 @@ fn take_lines<S: Shelf>(
     line: &mut Vec<u8>,
     reader: &mut Reader,
 ) -> Result<(), Stop>
-    requires count { S.failed shelf.old + 1 < 2 ^ 64 }
+    requires count { (S.model shelf.old).failed + 1 < 2 ^ 64 }
     requires running { stop_in merger.old ≡ None }
     requires fresh { reader.old ≡ new_reader }
-    ensures keeps { KeepsShelf S.Shelf shelf.old shelf.new }
+    ensures reads { ReadsShelf (S.model shelf.old) (S.model shelf.new) result }
     ensures grows { Grows (so_far merger.old) (so_far merger.new) }
-    ensures scans { IsTrue (S.tells shelf.old) → OnOk result (Scans (scanned_after reader.new)
-        (so_far merger.old) (so_far merger.new) (to_come S.Shelf shelf.old merger.old)) }
+    ensures scans { Observed (S.model shelf.old) (λ seen. OnOk result (Scans (scanned_after reader.new)
+        (so_far merger.old) (so_far merger.new) (to_come seen merger.old))) }
     ensures within { OnOk result
         (ScansWithinLimits (so_far merger.new) (scanned_after reader.new)) }
     ensures ended { OnOk result ((stop_in merger.new ≡ None) × HasEnded merger.new
-        × (S.failed shelf.new ≡ S.failed shelf.old) × (cost reader.new + 8 < too_many)) }
-    ensures stops { IsTrue (S.tells shelf.old) → IfErr result (λ stop. ScanEndsEarly stop
-        (so_far merger.old) (so_far merger.new) (to_come S.Shelf shelf.old merger.old)) }
-    ensures blames { IfErr result (λ stop.
-        LeavesStop stop (S.failed shelf.old) (S.failed shelf.new) (stop_in merger.new)) }
-    ensures blamed { IsTrue (S.tells shelf.old) → KnowsReaders S.Shelf shelf.old merger.old →
-        BlamesFile (so_far merger.new).names (S.blamed shelf.old) (S.blamed shelf.new) result }
+        × (cost reader.new + 8 < too_many)) }
+    ensures stops { Observed (S.model shelf.old) (λ seen. IfErr result (λ stop. ScanEndsEarly stop
+        (so_far merger.old) (so_far merger.new) (to_come seen merger.old))) }
+    ensures blames { IfErr result (λ stop. LeavesStop stop (stop_in merger.new)) }
+    ensures blamed { Observed (S.model shelf.old) (λ seen. KnowsReaders seen merger.old →
+        BlamesFile (name_of_file (so_far merger.new).names)
+        (S.model shelf.old) (S.model shelf.new) result) }
     ensures named { IfErr result (λ stop. files_named stop ≤ length (so_far merger.new).names) }
 {
     'lines: loop {
@@ -118,27 +118,28 @@ fn take_lines<S: Shelf>(
 /// Scans the remaining lines of a merger into a store, faults and sections. The source is these lines joined by
 /// newlines. If an allocation fails, the merger stops.
 pub fn scan<S: Shelf>(alloc: Global, merger: &mut Merger<S>, shelf: &mut S) -> Result<Scanned, Stop>
-    requires { S.failed shelf.old + 1 < 2 ^ 64 }
-    ensures keeps { KeepsShelf S.Shelf shelf.old shelf.new }
+    requires { (S.model shelf.old).failed + 1 < 2 ^ 64 }
     ensures grows { Grows (so_far merger.old) (so_far merger.new) }
 
     // All lines were scanned.
-    ensures scans { IsTrue (S.tells shelf.old) → IfOk result (λ made. Scans (scanned_model made)
-        (so_far merger.old) (so_far merger.new) (to_come S.Shelf shelf.old merger.old)) }
+    ensures scans { Observed (S.model shelf.old) (λ seen. IfOk result (λ made. Scans (scanned_model made)
+        (so_far merger.old) (so_far merger.new) (to_come seen merger.old))) }
     ensures within { IfOk result
         (λ made. ScansWithinLimits (so_far merger.new) (scanned_model made)) }
-    ensures ended { OnOk result
-        ((stop_in merger.new ≡ None) × HasEnded merger.new
-        × (S.failed shelf.new ≡ S.failed shelf.old)) }
+    ensures ended { OnOk result ((stop_in merger.new ≡ None) × HasEnded merger.new
+        × (S.model shelf.new ≡ S.model shelf.old)) }
 
     // Why not all lines were scanned.
-    ensures stops { IsTrue (S.tells shelf.old) → stop_in merger.old ≡ None →
-        IfErr result (λ stop. ScanEndsEarly stop (so_far merger.old) (so_far merger.new) (to_come S.Shelf shelf.old merger.old)) }
+    ensures stops { Observed (S.model shelf.old) (λ seen. stop_in merger.old ≡ None →
+        IfErr result (λ stop. ScanEndsEarly stop (so_far merger.old) (so_far merger.new)
+        (to_come seen merger.old))) }
+    ensures reads { stop_in merger.old ≡ None →
+        ReadsShelf (S.model shelf.old) (S.model shelf.new) result }
     ensures blames { stop_in merger.old ≡ None →
-        IfErr result (λ stop. LeavesStop stop (S.failed shelf.old) (S.failed shelf.new) (stop_in merger.new)) }
-    ensures blamed { IsTrue (S.tells shelf.old) → KnowsReaders S.Shelf shelf.old merger.old →
-        stop_in merger.old ≡ None → BlamesFile (so_far merger.new).names
-        (S.blamed shelf.old) (S.blamed shelf.new) result }
+        IfErr result (λ stop. LeavesStop stop (stop_in merger.new)) }
+    ensures blamed { Observed (S.model shelf.old) (λ seen. KnowsReaders seen merger.old →
+        stop_in merger.old ≡ None → BlamesFile (name_of_file (so_far merger.new).names)
+        (S.model shelf.old) (S.model shelf.new) result) }
     ensures again { IfSome (stop_in merger.old) (λ stop.
         (result ≡ Err stop) × (merger.new ≡ merger.old) × (shelf.new ≡ shelf.old)) }
     ensures named { IfErr result (λ stop. files_named stop ≤ length (so_far merger.new).names) }

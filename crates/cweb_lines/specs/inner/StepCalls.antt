@@ -1,21 +1,21 @@
 -- What the calls of a step promise.
-use Rattle.std.specs.Prelude.{◌≡◌, ◌≤◌, ◌<◌, ◌+◌, ℕ, List, length, None, Option, Result, Ok, Err, IsTrue}
+use Rattle.std.specs.Prelude.{◌≡◌, ◌≤◌, ◌<◌, ◌+◌, ℕ, List, length, None, Option, Result, Ok, Err}
 use Rattle.std.specs.Prelude.{IfOk, IfErr, OnOk, OnErr}
-use Rattle.cweb_files.specs.declared.device.Shelf.{Ghosts as Shelf}
-use Rattle.cweb_files.specs.surface.Frames.{KeepsShelf}
-use Rattle.cweb_input.specs.inner.Finding.{ReadsNothing}
+use Rattle.cweb_files.specs.Shelves.{Observed, ShelfContents, ShelfModel}
 use Rattle.cweb_input.specs.inner.LineCalls.{AnswersLine}
 use Rattle.cweb_input.specs.Lines.{Line, SourceLine}
 use Rattle.cweb_input.specs.surface.Counters.{counters_of}
-use Rattle.cweb_input.specs.surface.OpenSources.{CountsReadStop, StopsReading, files_named}
+use Rattle.cweb_input.specs.surface.OpenSources.{StopsReading, files_named}
+use Rattle.cweb_input.specs.surface.ReaderNames.{ReadsShelf}
 use Rattle.cweb_input.specs.surface.OpenedFileNames.{opened_file_names}
 use Rattle.cweb_lines.specs.Events.{Event}
 use Rattle.cweb_lines.specs.inner.MergeProgress.{TurnCounts, TurnEnds, TurnGains, TurnKnown, TurnLine, turns_left}
 use Rattle.cweb_lines.specs.inner.MergeProgress.{EmitsAfterLine, events_after_line, turn_lines}
-use Rattle.cweb_lines.specs.inner.MergeReaderNames.{BlamesReaders, KeepsReaders}
+use Rattle.cweb_lines.specs.inner.MergeReaderNames.{KeepsReaders}
 use Rattle.cweb_lines.specs.inner.Stages.{IsSettled, begun_by}
 use Rattle.cweb_lines.specs.inner.Steps.{OnlyTakes}
 use Rattle.cweb_lines.specs.surface.MergeProgress.{EmitsLines, KeepsReported, events_to_come, pending_of, so_far_of}
+use Rattle.cweb_lines.specs.surface.MergeReaderNames.{AreReadersKnown}
 use Rattle.cweb_lines.specs.surface.MergerCalls.{StopsThere}
 use Rattle.cweb_lines.specs.declared.change.old_side.Replaced.{Replaced}
 use Rattle.cweb_lines.specs.declared.merge_state.MergeState.{MergeState}
@@ -25,28 +25,26 @@ use Rattle.cweb_input.specs.declared.stop.Stop.{Stop}
 use Rattle.cweb_input.specs.declared.stop.Stop.TheVariants.{Memory}
 
 -- All events of a merger's state to come, by the contents of the shelf and what the readers have left.
-abbrev pub coming : {S R : Type 0} → Shelf S R → S → MergeState R → List Event
-coming shelf s run = events_to_come (shelf.texts s) (shelf.left s) run
+abbrev pub coming : {R : Type 0} → ShelfContents R → MergeState R → List Event
+coming seen run = events_to_come seen.texts seen.left run
 
 -- A result without its value.
 abbrev pub outcome : {A : Type 0} → Result A Stop → Result (Unit {0}) Stop
 outcome (Ok x) = Ok tt
 outcome (Err stop) = Err stop
 
--- Lines may be read. The rest of the shelf stays, and readers keep the names of their files. A failed read is counted
--- and blames its file. Reports only grow.
-pub record Reads {S R : Type 0} (shelf : Shelf S R) (old new : S) (run run' : MergeState R)
+-- Lines may be read. Readers keep the names of their files. A failed read is counted and blames its file. Reports only
+-- grow.
+pub record Reads {R : Type 0} (old new : ShelfModel R) (run run' : MergeState R)
     (result : Result (Unit {0}) Stop) : Type 0 where
-  pub keeps : KeepsShelf shelf old new
-  pub failed : CountsReadStop (shelf.failed old) (shelf.failed new) result
-  pub readers : KeepsReaders shelf old new run run'
-  pub blamed : BlamesReaders shelf old new run run' result
+  pub shelf : ReadsShelf old new result
+  pub readers : KeepsReaders old new run run' result
   pub still : KeepsReported (so_far_of run) (so_far_of run')
 
 -- A line of a file is taken and counted. Nothing is reported.
-pub record TakesLine {S R : Type 0} (shelf : Shelf S R) (old new : S) (run run' : MergeState R) (bytes : List ℕ)
+pub record TakesLine {R : Type 0} (old new : ShelfModel R) (run run' : MergeState R) (bytes : List ℕ)
     (result : Result (Option LineAt) Stop) : Type 0 where
-  pub reads : Reads shelf old new run run' (outcome result)
+  pub reads : Reads old new run run' (outcome result)
   pub answers : AnswersLine (length (opened_file_names run.names)) (counters_of run.limits) (counters_of run'.limits)
       bytes result
   pub only : OnlyTakes run run'
@@ -130,23 +128,23 @@ pub record IsPlainLine {R : Type 0} (run : MergeState R) (bytes : List ℕ) (at 
 
 -- A line that was taken is obeyed, or emitted as `lines` says. Nothing is read, readers keep the names of their files,
 -- and reports only grow.
-pub record Obeys {S R A : Type 0} (shelf : Shelf S R) (old new : S) (run run' : MergeState R) (bytes : List ℕ)
+pub record Obeys {R A : Type 0} (old new : ShelfModel R) (run run' : MergeState R) (bytes : List ℕ)
     (at : LineAt) (lines : A → List Line) (result : Result A Stop) : Type 0 where
-  pub reads : ReadsNothing shelf old new
-  pub readers : KeepsReaders shelf old new run run'
+  pub same : new ≡ old
+  pub readers : Observed old (λ seen. AreReadersKnown seen.opened_as run → AreReadersKnown seen.opened_as run')
   pub still : KeepsReported (so_far_of run) (so_far_of run')
   pub only : OnlyObeys run run' result
-  pub yields : IsTrue (shelf.tells old) → IfOk result (λ x. (source : SourceLine)
+  pub yields : Observed old (λ seen. IfOk result (λ x. (source : SourceLine)
       → source.line ≡ record { bytes = bytes; place = at.place } → EmitsAfterLine source (lines x) (so_far_of run)
-      (so_far_of run') (events_after_line (shelf.texts old) (shelf.left old) run at source) (coming shelf new run'))
+      (so_far_of run') (events_after_line seen.texts seen.left run at source) (coming seen run')))
 
 -- A step takes a turn, and may read lines. Its line, if it emits one, comes next. If it stops, the reason is that of
 -- the events to come.
-pub record TakesTurn {S R : Type 0} (shelf : Shelf S R) (old new : S) (run run' : MergeState R) (bytes : List ℕ)
+pub record TakesTurn {R : Type 0} (old new : ShelfModel R) (run run' : MergeState R) (bytes : List ℕ)
     (result : Result Turn Stop) : Type 0 where
-  pub reads : Reads shelf old new run run' (outcome result)
+  pub reads : Reads old new run run' (outcome result)
   pub turns : Turns run run' bytes result
-  pub yields : IsTrue (shelf.tells old) → IfOk result (λ turn. EmitsLines (turn_lines turn bytes) (so_far_of run)
-      (so_far_of run') (coming shelf old run) (coming shelf new run'))
-  pub stops : IsTrue (shelf.tells old)
-      → IfErr result (λ stop. StopsThere stop (so_far_of run) (so_far_of run') (coming shelf old run))
+  pub yields : Observed old (λ seen. IfOk result (λ turn. EmitsLines (turn_lines turn bytes) (so_far_of run)
+      (so_far_of run') (coming seen run) (coming seen run')))
+  pub stops : Observed old (λ seen. IfErr result (λ stop. StopsThere stop (so_far_of run) (so_far_of run')
+      (coming seen run)))

@@ -1,7 +1,7 @@
 -- The calls of a merger.
 use Rattle.std.specs.Prelude.{◌≡◌, ◌≤◌, ◌<◌, ◌+◌, ℕ, List, [], ◌∷◌, length, Option, None, Some, Result, Ok, IfErr, OnOk}
 use Rattle.std.specs.Prelude.{OnErr}
-use Rattle.cweb_files.specs.declared.device.Shelf.{Ghosts as Shelf}
+use Rattle.cweb_files.specs.Shelves.{ShelfContents, ShelfModel}
 use Rattle.cweb_files.specs.declared.place.Place.{Place}
 use Rattle.cweb_input.specs.Include.{names_found, contents_found, World, Found}
 use Rattle.cweb_input.specs.Lines.{Line}
@@ -11,9 +11,8 @@ use Rattle.cweb_lines.specs.Merge.{started}
 use Rattle.cweb_lines.specs.surface.MergeProgress.{SoFar, EmitsLines, KeepsReported, NothingLeft, Stopped}
 use Rattle.cweb_lines.specs.surface.MergeProgress.{ReportsPrefix, so_far_of, events_to_come}
 use Rattle.cweb_lines.specs.surface.MergeReaderNames.{AreReadersKnown}
-use Rattle.cweb_input.specs.surface.ReaderNames.{BlamesFile}
-use Rattle.cweb_input.specs.surface.OpenSources.{CountsReadStop, StopsReading}
-use Rattle.cweb_input.specs.surface.OpenSources.{files_named}
+use Rattle.cweb_input.specs.surface.ReaderNames.{BlamesFile, ReadsShelf, name_of_file}
+use Rattle.cweb_input.specs.surface.OpenSources.{StopsReading, files_named}
 use Rattle.cweb_lines.specs.surface.Total.{merge}
 use Rattle.cweb_input.specs.declared.limits.TheConstants.{LINES, BYTES}
 use Rattle.cweb_lines.specs.declared.merger.Merger.{Merger}
@@ -21,11 +20,11 @@ use Rattle.cweb_input.specs.declared.stop.Stop.{Stop}
 use Rattle.cweb_input.specs.declared.stop.Stop.TheVariants.{WebNotOpened, ChangeNotOpened, Memory}
 
 -- All events to come, by the contents of the shelf and what the readers have left.
-abbrev pub to_come : {S R : Type 0} → Shelf S R → S → Merger S R → List Event
-to_come shelf s merger = events_to_come (shelf.texts s) (shelf.left s) merger.run
+abbrev pub to_come : {S R : Type 0} → ShelfContents R → Merger S R → List Event
+to_come seen merger = events_to_come seen.texts seen.left merger.run
 
-abbrev pub lines_to_come : {S R : Type 0} → Shelf S R → S → Merger S R → List Line
-lines_to_come shelf s merger = emitted_lines (to_come shelf s merger)
+abbrev pub lines_to_come : {S R : Type 0} → ShelfContents R → Merger S R → List Line
+lines_to_come seen merger = emitted_lines (to_come seen merger)
 
 abbrev pub so_far : {S R : Type 0} → Merger S R → SoFar
 so_far merger = so_far_of merger.run
@@ -34,15 +33,14 @@ abbrev pub stop_in : {S R : Type 0} → Merger S R → Option Stop
 stop_in merger = merger.run.stopped
 
 -- Each reader was opened under the name of its file.
-abbrev pub KnowsReaders : {S R : Type 0} → Shelf S R → S → Merger S R → Type 0
-KnowsReaders shelf s merger = AreReadersKnown (shelf.opened_as s) merger.run
+abbrev pub KnowsReaders : {S R : Type 0} → ShelfContents R → Merger S R → Type 0
+KnowsReaders seen merger = AreReadersKnown seen.opened_as merger.run
 
 -- Readers are still opened under the names of their files, and a failed read blames the name of its file.
-pub record StaysKnown {S R A : Type 0} (shelf : Shelf S R) (before after : S) (old new : Merger S R)
+pub record StaysKnown {S R A : Type 0} (seen : ShelfContents R) (before after : ShelfModel R) (old new : Merger S R)
     (result : Result A Stop) : Type 0 where
-  pub readers : KnowsReaders shelf after new
-  pub blamed : stop_in old ≡ None
-      → BlamesFile (so_far new).names (shelf.blamed before) (shelf.blamed after) result
+  pub readers : KnowsReaders seen new
+  pub blamed : stop_in old ≡ None → BlamesFile (name_of_file (so_far new).names) before after result
 
 abbrev pub HasEnded : {S R : Type 0} → Merger S R → Type 0
 HasEnded merger = NothingLeft merger.run
@@ -79,8 +77,9 @@ pub record LeavesMerger {S R : Type 0} (result : Result (Option Place) Stop) (by
   pub named : IfErr result (λ stop. files_named stop ≤ length (so_far merger).names)
 
 -- One read failed if the stop says so, else none did. The stop is one of taking lines.
-pub record ReportsReadFailures (before now : ℕ) (result : Result (Option Place) Stop) : Type 0 where
-  pub failed : CountsReadStop before now result
+pub record ReportsReadFailures {R : Type 0} (before after : ShelfModel R)
+    (result : Result (Option Place) Stop) : Type 0 where
+  pub reads : ReadsShelf before after result
   pub reading : IfErr result (λ stop. StopsReading stop)
 
 -- Why there is no line. The reports so far are a prefix of all.

@@ -1,16 +1,17 @@
 -- How far the output of a merge is, and why it stops.
 use Rattle.std.specs.Prelude.{◌≡◌, ◌≤◌, ◌+◌, ℕ, List, [], ◌∷◌, ◌++◌, length, Option, None, Some, Result, Err}
-use Rattle.std.specs.Prelude.{IsTrue, IfErr, IfSome, OnErr, OnOk}
+use Rattle.std.specs.Prelude.{IfErr, IfSome, OnErr, OnOk}
 use Rattle.cweb_files.specs.Sinks.{FailsWithin, SinkModel, written}
 use Rattle.cweb_files.specs.surface.Writes.{Prints, WritesPrefix}
-use Rattle.cweb_files.specs.surface.Frames.{KeepsShelf}
+use Rattle.cweb_files.specs.Shelves.{Observed}
 use Rattle.cweb_files.specs.declared.device.Shelf.{Ghosts as Shelf}
 use Rattle.cweb_files.specs.declared.device.Sink.{Ghosts as Sink}
 use Rattle.cweb_input.specs.Lines.{Line}
 use Rattle.cweb_lines.specs.Events.{Event, emitted_lines, written_lines}
 use Rattle.cweb_lines.specs.surface.MergeProgress.{SoFar, EmitsLines, StopsAfterLines}
 use Rattle.cweb_lines.specs.surface.MergeProgress.{ReadFailsAfterLines, ReportsPrefix}
-use Rattle.cweb_input.specs.surface.OpenSources.{read_failures_of, files_named}
+use Rattle.cweb_input.specs.surface.OpenSources.{files_named}
+use Rattle.cweb_input.specs.surface.ReaderNames.{ReadsShelf}
 use Rattle.cweb_lines.specs.surface.MergerCalls.{Grows, HasEnded, KnowsReaders, StaysKnown, lines_to_come, so_far}
 use Rattle.cweb_lines.specs.surface.MergerCalls.{stop_in, to_come}
 use Rattle.cweb_lines.specs.declared.merger.Merger.{Merger}
@@ -85,17 +86,11 @@ abbrev pub write_failures_of : Stop → ℕ
 write_failures_of WriteFault = 1
 write_failures_of _ = 0
 
--- The failure counts of the devices of a merge.
-pub record FailureCounts : Type 0 where
-  pub shelf : ℕ
-  pub out : ℕ
-
--- The state after a stop: the failure count of its device is one higher, and a file number in it is that of an opened
--- file. The merger stores the stop, unless it is a write fault.
-pub record LeavesDevices (stop : Stop) (old new : FailureCounts) (in_merger : Option Stop) (files : ℕ) : Type 0 where
+-- The state after a stop: a write fault is counted in `old` and `new`, and a file number in the stop is that of an
+-- opened file. The merger stores the stop, unless it is a write fault.
+pub record LeavesSink (stop : Stop) (old new : ℕ) (in_merger : Option Stop) (files : ℕ) : Type 0 where
   pub kind : WritingStops stop
-  pub shelf : new.shelf ≡ old.shelf + read_failures_of stop
-  pub out : new.out ≡ old.out + write_failures_of stop
+  pub out : new ≡ old + write_failures_of stop
   pub named : files_named stop ≤ files
   pub kept : KeepsStop stop in_merger
 
@@ -103,29 +98,27 @@ pub record LeavesDevices (stop : Stop) (old new : FailureCounts) (in_merger : Op
 pub record WritesMerged {S R W A : Type 0} (shelf : Shelf S R) (sink : Sink W)
     (Loses : SoFar → SoFar → List Event → List Event → SinkModel → SinkModel → Type 0) (old new : S)
     (merger merger' : Merger S R) (out out' : W) (result : Result A Stop) : Type 0 where
-  pub keeps : KeepsShelf shelf old new
   pub grows : Grows (so_far merger) (so_far merger')
   pub printed : Prints (sink.model out) (sink.model out')
   -- all lines were written
-  pub ok : IsTrue (shelf.tells old) → OnOk result (WritesAll (so_far merger) (so_far merger') (to_come shelf old merger)
-      (Writes (sink.model out) (sink.model out')))
-  pub ended : OnOk result ((stop_in merger' ≡ None) × HasEnded merger' × (shelf.failed new ≡ shelf.failed old)
+  pub ok : Observed (shelf.model old) (λ seen. OnOk result (WritesAll (so_far merger) (so_far merger')
+      (to_come seen merger) (Writes (sink.model out) (sink.model out'))))
+  pub ended : OnOk result ((stop_in merger' ≡ None) × HasEnded merger'
       × ((sink.model out').failed ≡ (sink.model out).failed))
   -- a prefix of them was written, and why
-  pub prefix : IsTrue (shelf.tells old) → OnErr result
-      (WritesPrefix (written_lines (lines_to_come shelf old merger)) (sink.model out) (sink.model out'))
-  pub stops : IsTrue (shelf.tells old) → stop_in merger ≡ None → IfErr result (λ stop. StopsWritingEarly stop
-      (so_far merger) (so_far merger') (to_come shelf old merger) (Writes (sink.model out) (sink.model out')))
-  pub fault : IsTrue (shelf.tells old) → stop_in merger ≡ None → result ≡ Err WriteFault
-      → Loses (so_far merger) (so_far merger') (to_come shelf old merger) (to_come shelf new merger') (sink.model out)
-      (sink.model out')
+  pub prefix : Observed (shelf.model old) (λ seen. OnErr result
+      (WritesPrefix (written_lines (lines_to_come seen merger)) (sink.model out) (sink.model out')))
+  pub stops : Observed (shelf.model old) (λ seen. stop_in merger ≡ None → IfErr result (λ stop. StopsWritingEarly stop
+      (so_far merger) (so_far merger') (to_come seen merger) (Writes (sink.model out) (sink.model out'))))
+  pub fault : Observed (shelf.model old) (λ seen. stop_in merger ≡ None → result ≡ Err WriteFault
+      → Loses (so_far merger) (so_far merger') (to_come seen merger) (to_come seen merger') (sink.model out)
+      (sink.model out'))
   -- the device that the stop names has failed, once, and no other
-  pub blames : stop_in merger ≡ None → IfErr result (λ stop. LeavesDevices stop
-      (record { shelf = shelf.failed old; out = (sink.model out).failed }) (record {
-        shelf = shelf.failed new;
-        out = (sink.model out').failed;
-      }) (stop_in merger') (length (so_far merger').names))
-  pub known : IsTrue (shelf.tells old) → KnowsReaders shelf old merger → StaysKnown shelf old new merger merger' result
+  pub reads : stop_in merger ≡ None → ReadsShelf (shelf.model old) (shelf.model new) result
+  pub blames : stop_in merger ≡ None → IfErr result (λ stop. LeavesSink stop (sink.model out).failed
+      (sink.model out').failed (stop_in merger') (length (so_far merger').names))
+  pub known : Observed (shelf.model old) (λ seen. KnowsReaders seen merger
+      → StaysKnown seen (shelf.model old) (shelf.model new) merger merger' result)
   -- after an earlier stop nothing happens
   pub again : IfSome (stop_in merger) (λ stop. (result ≡ Err stop) × (merger' ≡ merger) × (new ≡ old) × (out' ≡ out)
       × (files_named stop ≤ length (so_far merger').names))

@@ -1,5 +1,6 @@
 // The old side of a change: its further old lines, and the raw lines that they replace.
-ghost use Rattle.std.specs.Prelude.{◌≡◌, ◌≤◌, ◌<◌, ◌+◌, ◌^◌, ◌++◌, [], length, IsTrue, IfOk, IfErr};
+ghost use Rattle.cweb_files.specs.Shelves.{Observed};
+ghost use Rattle.std.specs.Prelude.{◌≡◌, ◌≤◌, ◌<◌, ◌+◌, ◌^◌, ◌++◌, [], length, IfOk, IfErr};
 ghost use Rattle.std.specs.Prelude.{OnOk, OnErr};
 ghost use Rattle.cweb_lines.specs.inner.StepCalls.{GoesOn, Reads, TakesAway, outcome};
 ghost use Rattle.cweb_lines.specs.Merge.{change_events, closing_faults, fault_if};
@@ -40,18 +41,18 @@ fn compare<S: Shelf>(
     line: &mut Vec<u8>,
     so_far: Replaced,
 ) -> Result<Replaced, Stop>
-    requires count { S.failed shelf.old + 1 < 2 ^ 64 }
+    requires count { (S.model shelf.old).failed + 1 < 2 ^ 64 }
     requires floor { floor_of run.old.stage ≡ 0 }
     requires few { so_far.unequal ≤ run.old.limits.lines }
-    ensures reads { Reads S.Shelf shelf.old shelf.new run.old run.new (outcome result) }
-    ensures compares { IsTrue (S.tells shelf.old) →
+    ensures reads { Reads (S.model shelf.old) (S.model shelf.new) run.old run.new (outcome result) }
+    ensures compares { Observed (S.model shelf.old) (λ seen.
         IfOk result (λ replaced. Compares run.old.first.items so_far replaced
-        (things_above (S.left shelf.old) 0 run.old.stack [])
-        (things_above (S.left shelf.new) 0 run.new.stack []) (so_far_of run.old)
-        (so_far_of run.new)) }
-    ensures stops { IsTrue (S.tells shelf.old) →
+        (things_above seen.left 0 run.old.stack [])
+        (things_above seen.left 0 run.new.stack []) (so_far_of run.old)
+        (so_far_of run.new))) }
+    ensures stops { Observed (S.model shelf.old) (λ seen.
         IfErr result (λ stop. StopsFor (TopStops stop (counters_of run.old.limits)
-        (things_above (S.left shelf.old) 0 run.old.stack [])) stop) }
+        (things_above seen.left 0 run.old.stack [])) stop)) }
     ensures away { TakesAway so_far run.old run.new result }
     ensures only { OnlyTakes run.old run.new }
     ensures change { run.new.change ≡ run.old.change }
@@ -81,20 +82,20 @@ fn replace<S: Shelf>(
     run: &mut MergeState<S::R>,
     line: &mut Vec<u8>,
 ) -> Result<Replaced, Stop>
-    requires count { S.failed shelf.old + 1 < 2 ^ 64 }
+    requires count { (S.model shelf.old).failed + 1 < 2 ^ 64 }
     requires floor { floor_of run.old.stage ≡ 0 }
-    ensures reads { Reads S.Shelf shelf.old shelf.new run.old run.new (outcome result) }
-    ensures replaced { IsTrue (S.tells shelf.old) →
-        IfOk result (λ replaced. IsReplaced (old_side_of (S.left shelf.old) run.old) replaced
-        (change_lines (S.left shelf.new) run.new)
-        (things_above (S.left shelf.new) 0 run.new.stack []) (so_far_of run.old)
-        (so_far_of run.new)) }
-    ensures stops { IsTrue (S.tells shelf.old) →
+    ensures reads { Reads (S.model shelf.old) (S.model shelf.new) run.old run.new (outcome result) }
+    ensures replaced { Observed (S.model shelf.old) (λ seen.
+        IfOk result (λ replaced. IsReplaced (old_side_of seen.left run.old) replaced
+        (change_lines seen.left run.new)
+        (things_above seen.left 0 run.new.stack []) (so_far_of run.old)
+        (so_far_of run.new))) }
+    ensures stops { Observed (S.model shelf.old) (λ seen.
         IfErr result (λ stop. StopsOldSide stop (so_far_of run.old) (so_far_of run.new)
-        (old_side_of (S.left shelf.old) run.old)) }
-    ensures reported { IsTrue (S.tells shelf.old) →
+        (old_side_of seen.left run.old))) }
+    ensures reported { Observed (S.model shelf.old) (λ seen.
         OnErr result (ReportsPrefix (so_far_of run.old) (so_far_of run.new)
-        (old_side_of (S.left shelf.old) run.old).events) }
+        (old_side_of seen.left run.old).events)) }
     ensures goes { GoesOn run.old run.new result }
     ensures stage { run.new.stage ≡ run.old.stage }
 {
@@ -184,21 +185,21 @@ pub fn begin_change<S: Shelf>(
     begin: Place,
     depth: usize,
 ) -> Result<(), Stop>
-    requires count { S.failed shelf.old + 1 < 2 ^ 64 }
+    requires count { (S.model shelf.old).failed + 1 < 2 ^ 64 }
     requires floor { floor_of run.old.stage ≡ 0 }
     requires known { begin.file.0 < length (opened_file_names run.old.names) }
     requires deep { run.old.stack.depth ≤ depth }
-    ensures reads { Reads S.Shelf shelf.old shelf.new run.old run.new (outcome result) }
-    ensures changed { IsTrue (S.tells shelf.old) →
-        OnOk result (IsChanged begin depth (old_side_of (S.left shelf.old) run.old) run.new.stage
-        (change_lines (S.left shelf.new) run.new) (things_of (S.left shelf.new) run.new)
-        (so_far_of run.old) (so_far_of run.new)) }
-    ensures stops { IsTrue (S.tells shelf.old) →
+    ensures reads { Reads (S.model shelf.old) (S.model shelf.new) run.old run.new (outcome result) }
+    ensures changed { Observed (S.model shelf.old) (λ seen.
+        OnOk result (IsChanged begin depth (old_side_of seen.left run.old) run.new.stage
+        (change_lines seen.left run.new) (things_of seen.left run.new)
+        (so_far_of run.old) (so_far_of run.new))) }
+    ensures stops { Observed (S.model shelf.old) (λ seen.
         IfErr result (λ stop. StopsOldSide stop (so_far_of run.old) (so_far_of run.new)
-        (old_side_of (S.left shelf.old) run.old)) }
-    ensures reported { IsTrue (S.tells shelf.old) →
+        (old_side_of seen.left run.old))) }
+    ensures reported { Observed (S.model shelf.old) (λ seen.
         OnErr result (ReportsPrefix (so_far_of run.old) (so_far_of run.new)
-        (change_events begin (old_side_of (S.left shelf.old) run.old))) }
+        (change_events begin (old_side_of seen.left run.old)))) }
     ensures goes { GoesOn run.old run.new result }
 {
     let replaced = match replace(shelf, run, line) {

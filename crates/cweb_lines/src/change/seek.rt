@@ -1,5 +1,6 @@
 // The search for the next entry of a change file.
-ghost use Rattle.std.specs.Prelude.{◌≡◌, ◌<◌, ◌+◌, ◌^◌, ◌++◌, ◌∷◌, [], List, length, IsTrue, IfOk};
+ghost use Rattle.cweb_files.specs.Shelves.{Observed};
+ghost use Rattle.std.specs.Prelude.{◌≡◌, ◌<◌, ◌+◌, ◌^◌, ◌++◌, ◌∷◌, [], List, length, IfOk};
 ghost use Rattle.std.specs.Prelude.{IfErr, OnOk, OnErr, None, Some};
 ghost use Rattle.cweb_lines.specs.inner.StepCalls.{OnlySeeks, Reads, outcome};
 ghost use Rattle.cweb_lines.specs.Change.{sought};
@@ -149,16 +150,16 @@ pub fn seek<S: Shelf>(
     run: &mut MergeState<S::R>,
     line: &mut Vec<u8>,
 ) -> Result<(), Stop>
-    requires count { S.failed shelf.old + 1 < 2 ^ 64 }
+    requires count { (S.model shelf.old).failed + 1 < 2 ^ 64 }
     requires seeking { run.old.stage ≡ Stage.Seeking }
-    ensures reads { Reads S.Shelf shelf.old shelf.new run.old run.new (outcome result) }
-    ensures searched { IsTrue (S.tells shelf.old) →
-        OnOk result (Searched (sought (change_lines (S.left shelf.old) run.old) None)
+    ensures reads { Reads (S.model shelf.old) (S.model shelf.new) run.old run.new (outcome result) }
+    ensures searched { Observed (S.model shelf.old) (λ seen.
+        OnOk result (Searched (sought (change_lines seen.left run.old) None)
         (so_far_of run.old) (so_far_of run.new) run.new.stage run.new.first.items
-        (change_lines (S.left shelf.new) run.new)) }
-    ensures stops { IsTrue (S.tells shelf.old) →
+        (change_lines seen.left run.new))) }
+    ensures stops { Observed (S.model shelf.old) (λ seen.
         IfErr result (λ stop. StopsThere stop (so_far_of run.old) (so_far_of run.new)
-        (sought (change_lines (S.left shelf.old) run.old) None).events) }
+        (sought (change_lines seen.left run.old) None).events)) }
     ensures only { OnlySeeks run.old run.new result }
 {
     let mut begin: Option<Place> = None;

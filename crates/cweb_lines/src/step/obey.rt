@@ -62,7 +62,8 @@ fn obey<S: Shelf>(
 ) -> Result<(), Stop>
     requires include { spec.is_include_line line.now ≡ true }
     requires plain { IsPlainLine run.old line.now at }
-    ensures { Obeys S.Shelf shelf.old shelf.new run.old run.new line.now at (λ _. []) result }
+    ensures { Obeys (S.model shelf.old) (S.model shelf.new) run.old run.new line.now at
+        (λ _. []) result }
 {
     let name = include_name(line);
     if name.is_empty() {
@@ -86,7 +87,7 @@ pub fn emit_or_obey<S: Shelf>(
     at: LineAt,
 ) -> Result<Turn, Stop>
     requires { IsPlainLine run.old line.now at }
-    ensures obeys { Obeys S.Shelf shelf.old shelf.new run.old run.new line.now at
+    ensures obeys { Obeys (S.model shelf.old) (S.model shelf.new) run.old run.new line.now at
         (λ turn. turn_lines turn line.now) result }
     ensures goes { IfOk result (λ turn. IsTaken turn) }
     ensures known { IfOk result

@@ -1,4 +1,5 @@
 // Elementary actions of a merger: taking a line and reporting a fault.
+ghost use Rattle.cweb_files.specs.Shelves.{Observed};
 ghost use Rattle.std.specs.Prelude.{◌≡◌, ◌<◌, ◌+◌, ◌^◌, ◌++◌, ◌∷◌, [], length, IsTrue, IfOk, IfErr};
 ghost use Rattle.std.specs.Prelude.{OnOk, OnErr};
 ghost use Rattle.cweb_input.specs.inner.LineCalls.{ClosesAbove};
@@ -60,15 +61,16 @@ pub fn take_change<S: Shelf>(
     run: &mut MergeState<S::R>,
     line: &mut Vec<u8>,
 ) -> Result<Option<LineAt>, Stop>
-    requires { S.failed shelf.old + 1 < 2 ^ 64 }
-    ensures takes { TakesLine S.Shelf shelf.old shelf.new run.old run.new line.new.items result }
-    ensures taken { IsTrue (S.tells shelf.old) →
-        IfOk result (λ at. TakesNextLine (change_lines (S.left shelf.old) run.old) at line.new.items
-        (change_lines (S.left shelf.new) run.new) (counters_of run.old.limits)
-        (counters_of run.new.limits)) }
-    ensures stops { IsTrue (S.tells shelf.old) →
+    requires { (S.model shelf.old).failed + 1 < 2 ^ 64 }
+    ensures takes { TakesLine (S.model shelf.old) (S.model shelf.new) run.old run.new
+        line.new.items result }
+    ensures taken { Observed (S.model shelf.old) (λ seen.
+        IfOk result (λ at. TakesNextLine (change_lines seen.left run.old) at line.new.items
+        (change_lines seen.left run.new) (counters_of run.old.limits)
+        (counters_of run.new.limits))) }
+    ensures stops { Observed (S.model shelf.old) (λ seen.
         IfErr result (λ stop. StopsFor (FirstStops stop (counters_of run.old.limits)
-        (change_lines (S.left shelf.old) run.old)) stop) }
+        (change_lines seen.left run.old)) stop)) }
     ensures stack { run.new.stack ≡ run.old.stack }
 {
     take_from(shelf, &mut run.change, &mut run.limits, line)
@@ -81,15 +83,16 @@ pub fn take_raw<S: Shelf>(
     run: &mut MergeState<S::R>,
     line: &mut Vec<u8>,
 ) -> Result<Option<LineAt>, Stop>
-    requires { S.failed shelf.old + 1 < 2 ^ 64 }
-    ensures takes { TakesLine S.Shelf shelf.old shelf.new run.old run.new line.new.items result }
-    ensures taken { IsTrue (S.tells shelf.old) →
-        IfOk result (λ at. TakesAbove (S.left shelf.old) (S.left shelf.new)
+    requires { (S.model shelf.old).failed + 1 < 2 ^ 64 }
+    ensures takes { TakesLine (S.model shelf.old) (S.model shelf.new) run.old run.new
+        line.new.items result }
+    ensures taken { Observed (S.model shelf.old) (λ seen.
+        IfOk result (λ at. TakesAbove seen.left
         (floor_of run.old.stage) run.old.stack run.new.stack at line.new.items
-        (counters_of run.old.limits) (counters_of run.new.limits)) }
-    ensures stops { IsTrue (S.tells shelf.old) →
-        IfErr result (λ stop. StopsFor (StopsAbove (S.left shelf.old)
-        (floor_of run.old.stage) run.old.stack stop (counters_of run.old.limits)) stop) }
+        (counters_of run.old.limits) (counters_of run.new.limits))) }
+    ensures stops { Observed (S.model shelf.old) (λ seen.
+        IfErr result (λ stop. StopsFor (StopsAbove seen.left
+        (floor_of run.old.stage) run.old.stack stop (counters_of run.old.limits)) stop)) }
     ensures closes { ClosesAbove (floor_of run.old.stage) run.old.stack run.new.stack result }
     ensures change { run.new.change ≡ run.old.change }
 {

@@ -23,10 +23,10 @@ fn take_new<S: Shelf>(
     change: Change,
     line: &mut Vec<u8>,
 ) -> Result<Turn, Stop>
-    requires count { S.failed shelf.old + 1 < 2 ^ 64 }
+    requires count { (S.model shelf.old).failed + 1 < 2 ^ 64 }
     requires changing { run.old.stage ≡ Stage.Changing change }
     requires below { run.old.stack.depth ≡ change.below }
-    ensures { TakesTurn S.Shelf shelf.old shelf.new run.old run.new line.new.items result }
+    ensures { TakesTurn (S.model shelf.old) (S.model shelf.new) run.old run.new line.new.items result }
 {
     let taken = match take_change(shelf, run, line) {
         Ok(taken) => taken,
@@ -67,10 +67,10 @@ fn take_end<S: Shelf>(
     run: &mut MergeState<S::R>,
     line: &mut Vec<u8>,
 ) -> Result<Turn, Stop>
-    requires count { S.failed shelf.old + 1 < 2 ^ 64 }
+    requires count { (S.model shelf.old).failed + 1 < 2 ^ 64 }
     requires settled { IsSettled run.old.stage }
     requires floor { run.old.stack.depth ≡ floor_of run.old.stage }
-    ensures { TakesTurn S.Shelf shelf.old shelf.new run.old run.new line.new.items result }
+    ensures { TakesTurn (S.model shelf.old) (S.model shelf.new) run.old run.new line.new.items result }
 {
     match run.stage {
         Stage::Done | Stage::Seeking => Ok(Turn::Ended),
@@ -101,8 +101,8 @@ pub fn take_turn<S: Shelf>(
     run: &mut MergeState<S::R>,
     line: &mut Vec<u8>,
 ) -> Result<Turn, Stop>
-    requires count { S.failed shelf.old + 1 < 2 ^ 64 }
-    ensures turn { TakesTurn S.Shelf shelf.old shelf.new run.old run.new line.new.items result }
+    requires count { (S.model shelf.old).failed + 1 < 2 ^ 64 }
+    ensures turn { TakesTurn (S.model shelf.old) (S.model shelf.new) run.old run.new line.new.items result }
     ensures ended { NothingLeft run.old → (result ≡ Ok Turn.Ended) × (run.new ≡ run.old)
         × (shelf.new ≡ shelf.old) }
 {
@@ -124,9 +124,9 @@ fn take_settled<S: Shelf>(
     run: &mut MergeState<S::R>,
     line: &mut Vec<u8>,
 ) -> Result<Turn, Stop>
-    requires count { S.failed shelf.old + 1 < 2 ^ 64 }
+    requires count { (S.model shelf.old).failed + 1 < 2 ^ 64 }
     requires settled { IsSettled run.old.stage }
-    ensures { TakesTurn S.Shelf shelf.old shelf.new run.old run.new line.new.items result }
+    ensures { TakesTurn (S.model shelf.old) (S.model shelf.new) run.old run.new line.new.items result }
 {
     let taken = match take_raw(shelf, run, line) {
         Ok(taken) => taken,

@@ -50,8 +50,7 @@ pub record ScanEndsEarly (stop : Stop) (old new : SoFar) (all : List Event) : Ty
   pub why : StopsFor (StopsAfter stop old new all) stop
   pub reported : ReportsPrefix old new all
 
--- After a stop: a read failure raised the shelf's count, and the merger stores the stop.
-pub record LeavesStop (stop : Stop) (before now : ℕ) (in_merger : Option Stop) : Type 0 where
+-- After a stop: the merger stores it.
+pub record LeavesStop (stop : Stop) (in_merger : Option Stop) : Type 0 where
   pub kind : StopsReading stop
-  pub failed : now ≡ before + read_failures_of stop
   pub kept : in_merger ≡ Some stop

@@ -1,8 +1,8 @@
-use Rattle.cweb_lines.proofs.Common.{rules, [], Ok, Err, Line, refl, sym, ◌∙◌, arith, IsTrue, Writes, BuffersLines, HasWritten, events_to_come, so_far_of, to_come, so_far, blames_none, WriteFault}
+use Rattle.cweb_lines.proofs.Common.{rules, ◌≡◌, Some, [], Ok, Err, Line, refl, sym, ◌∙◌, arith, Writes, BuffersLines, HasWritten, events_to_come, so_far_of, to_come, so_far, WriteFault}
 use Rattle.cweb_lines.proofs.ReportsOnlyGrow.{grows_reported, reported_same}
 use Rattle.cweb_lines.proofs.BufferedWrites.{failed_next, failed_same, held, held_on, fails_prefix, fails_among, printed_all, printed_before, printed_none, printed_then, written_on}
-use Rattle.cweb_files.proofs.FramesCompose.{keeps_same}
-use Rattle.cweb_lines.proofs.NoReadFails.{Quiet, quiet_same, reads_halted, reads_passed, reads_then, stays_known, still_tells}
+use Rattle.cweb_files.specs.Shelves.{ShelfContents}
+use Rattle.cweb_lines.proofs.NoReadFails.{Quiet, quiet_same, reads_halted, reads_passed, reads_then, stays_known, still_seen}
 use Rattle.cweb_lines.proofs.WrittenLinesAddUp.{nothing_yet, written_by, written_prefix, written_some, written_whole, tells_some, tells_more, tells_same}
 use Rattle.cweb_lines.proofs.WriteStops.{blames_own, blames_write, memory_failed, memory_write, none_before}
 use Rattle.cweb_lines.proofs.writing.write_merged_in_chunks.Given as given
@@ -16,38 +16,34 @@ lines-init g c = record {
   running = sym c.stopped.ensures.stop ∙ c.in_default.is;
   before = sym c.stopped.ensures.stop ∙ c.in_default.is;
   empty = c.new-buffer.ensures.items;
-  written = λ tells. nothing_yet _ _ _;
+  written = λ seen it. nothing_yet _ _ _;
 }
 
-quiet : (g : given.Over) (c : In-Ok g) → Quiet g.S.Shelf c.args.shelf.now c.next_line.new.shelf c.args.merger.now.run
+quiet : (g : given.Over) (c : In-Ok g) → Quiet (g.S.Shelf.model c.args.shelf.now) (g.S.Shelf.model c.next_line.new.shelf) c.args.merger.now.run
     c.next_line.new.self.run
 quiet g c = reads_then c.lines.invariant.quiet (record {
-  keeps = c.in-Ok.ensures.keeps;
-  failed = (c.in-Ok.ensures.blames c.lines.invariant.running).failed;
-  readers = λ tells known. (c.in-Ok.ensures.known tells known).readers;
-  blamed = λ tells known. (c.in-Ok.ensures.known tells known).blamed c.lines.invariant.running;
+  shelf = (c.in-Ok.ensures.blames c.lines.invariant.running).reads;
+  readers = λ seen it known.
+      let stays = c.in-Ok.ensures.known seen it known in (stays.readers, stays.blamed c.lines.invariant.running);
   still = c.in-Ok.ensures.grows.reported;
 })
 
-more : (g : given.Over) (c : After-pass_lines-passed g) → IsTrue (g.S.Shelf.tells c.args.shelf.now)
-    → BuffersLines c.args.room (so_far
-    c.args.merger.now) (so_far_of c.pass_lines-passed.new.self.run)
-    (to_come g.S.Shelf c.args.shelf.now c.args.merger.now)
-    (events_to_come (g.S.Shelf.texts c.next_line.new.shelf)
-    (g.S.Shelf.left c.next_line.new.shelf) c.pass_lines-passed.new.self.run)
+more : (g : given.Over) (c : After-pass_lines-passed g) (seen : ShelfContents g.row.S-R.Denot)
+    → (g.S.Shelf.model c.args.shelf.now).contents ≡ Some seen
+    → BuffersLines c.args.room (so_far c.args.merger.now) (so_far_of c.pass_lines-passed.new.self.run)
+    (to_come seen c.args.merger.now) (events_to_come seen.texts seen.left c.pass_lines-passed.new.self.run)
     (Writes (g.W.Sink.model c.args.out.now) (g.W.Sink.model c.lines.out)) c.pass_lines-passed.new.buffer.items
-more g c tells =
-    let next = rw c.in-Some-next.is at (c.in-Ok.ensures.next (still_tells c.lines.invariant.quiet tells)) in
+more g c seen it =
+    let next = rw c.in-Some-next.is at (c.in-Ok.ensures.next seen (still_seen c.lines.invariant.quiet it)) in
     let line : Line = record { bytes = c.next_line.new.line.items; place = c.in-Some-next.field-0 } in
     let passes = c.pass_lines-passed.ensures.passes in
-    held_on _ _ _ _ _ _ _ (held _ _ _ _ _ _ (c.lines.invariant.written tells) line _ _ next _ _ c.lines.invariant.empty
+    held_on _ _ _ _ _ _ _ (held _ _ _ _ _ _ (c.lines.invariant.written seen it) line _ _ next _ _ c.lines.invariant.empty
     (rw c.deref.ensures.value at c.in_default-append_line.ensures.ok)) passes.lines _ _
-    (passes.yields (g.S.Shelf.texts c.next_line.new.shelf) (g.S.Shelf.left c.next_line.new.shelf))
+    (passes.yields seen.texts seen.left)
     _ passes.buffered passes.within
 
 pub returns-in-Some : goal.returns-in-Some
 returns-in-Some g c = record {
-  keeps = keeps_same g.S.Shelf _;
   printed = printed_all (printed_none _);
   grows = grows_reported c.args.merger.now.run (reported_same _ _ refl refl);
   ok = search rules;
@@ -55,6 +51,7 @@ returns-in-Some g c = record {
   prefix = search rules;
   stops = search rules;
   fault = search rules;
+  reads = search rules;
   blames = search rules;
   known = search rules;
   again = search rules;
@@ -65,28 +62,27 @@ returns-in-Err g c =
     let next = c.in-Err.ensures in
     let blames = next.blames c.lines.invariant.running in
     let reads = reads_then c.lines.invariant.quiet (record {
-      keeps = next.keeps;
-      failed = blames.failed;
-      readers = λ tells known. (next.known tells known).readers;
-      blamed = λ tells known. (next.known tells known).blamed c.lines.invariant.running;
+      shelf = blames.reads;
+      readers = λ seen it known.
+          let stays = next.known seen it known in (stays.readers, stays.blamed c.lines.invariant.running);
       still = next.grows.reported;
     }) in
     record {
-      keeps = reads.keeps;
       printed = printed_all c.lines.invariant.printed;
       grows = record { reported = reads.still; lines = next.grows.lines; bytes = next.grows.bytes };
-      ok = λ _. tt;
+      ok = λ _ _. tt;
       ended = tt;
-      prefix = λ tells. written_prefix _ _ _ _ _ _ (c.lines.invariant.written tells);
-      stops = λ tells before.
-          let written = c.lines.invariant.written tells in
-          let there = next.stops (still_tells c.lines.invariant.quiet tells) c.lines.invariant.running in
+      prefix = λ seen it. written_prefix _ _ _ _ _ _ (c.lines.invariant.written seen it);
+      stops = λ seen it before.
+          let written = c.lines.invariant.written seen it in
+          let there = next.stops seen (still_seen c.lines.invariant.quiet it) c.lines.invariant.running in
           record {
             why = written_by _ _ _ _ _ _ written c.in-Err.stop _ there.why;
             reported = tells_more _ _ _ _ _ _ written.yields there.reported;
           };
       fault = search rules;
-      blames = λ before. blames_own c.in-Err.stop _ _ _ _ blames.reading next.leaves.kept next.leaves.named reads.failed
+      reads = λ before. reads.shelf;
+      blames = λ before. blames_own c.in-Err.stop _ _ _ _ blames.reading next.leaves.kept next.leaves.named
           (failed_same c.lines.invariant.printed);
       known = stays_known (Err c.in-Err.stop) reads;
       again = none_before _ c.lines.invariant.before;
@@ -96,17 +92,17 @@ pub returns-in_default-next : goal.returns-in_default-next
 returns-in_default-next g c =
     let q = quiet g (goal.at.returns-in_default-next g c).In-Ok in
     record {
-      keeps = q.keeps;
       printed = printed_all c.lines.invariant.printed;
       grows = grows_reported c.next_line.new.self.run q.still;
-      ok = λ tells.
+      ok = λ seen it.
           let last = rw c.in_default-next.is at
-          (c.in-Ok.ensures.next (still_tells c.lines.invariant.quiet tells)) in
-          written_whole _ _ _ _ _ _ (c.lines.invariant.written tells) _ _ last.0 last.1;
+          (c.in-Ok.ensures.next seen (still_seen c.lines.invariant.quiet it)) in
+          written_whole _ _ _ _ _ _ (c.lines.invariant.written seen it) _ _ last.0 last.1;
       ended = search rules;
       prefix = search rules;
       stops = search rules;
       fault = search rules;
+      reads = λ before. q.shelf;
       blames = search rules;
       known = stays_known (Ok tt) q;
       again = none_before _ c.lines.invariant.before;
@@ -118,24 +114,24 @@ returns-in-Err-append_line g c =
     let reads = reads_then (quiet g (goal.at.returns-in-Err-append_line g c).In-Ok)
     (reads_halted c.halt.ensures.readers c.halt.ensures.so_far is_memory) in
     record {
-      keeps = reads.keeps;
       printed = printed_all c.lines.invariant.printed;
       grows = grows_reported c.halt.new.self.run reads.still;
-      ok = λ _. tt;
+      ok = λ _ _. tt;
       ended = tt;
-      prefix = λ tells. written_prefix _ _ _ _ _ _ (c.lines.invariant.written tells);
-      stops = λ tells before.
-          let written = c.lines.invariant.written tells in
+      prefix = λ seen it. written_prefix _ _ _ _ _ _ (c.lines.invariant.written seen it);
+      stops = λ seen it before.
+          let written = c.lines.invariant.written seen it in
           let next = rw c.in-Some-next.is at
-          (c.in-Ok.ensures.next (still_tells c.lines.invariant.quiet tells)) in
+          (c.in-Ok.ensures.next seen (still_seen c.lines.invariant.quiet it)) in
           record {
             why = memory_failed _ _ _ _ _ is_memory (written_some _ _ _ _ _ _ written);
             reported = tells_same _ _ _ _ c.halt.ensures.so_far (tells_more _ _ _ _ _ _ written.yields
                 (tells_some _ _ _ _ _ next));
           };
-      fault = λ tells before is. absurd (memory_write _ _ refl is_memory is);
+      fault = λ seen it before is. absurd (memory_write _ _ refl is_memory is);
+      reads = λ before. reads.shelf;
       blames = λ before. blames_own c.halt.result _ _ _ _ (rw is_memory tt) c.halt.ensures.kept c.halt.ensures.named
-          reads.failed (failed_same c.lines.invariant.printed);
+          (failed_same c.lines.invariant.printed);
       known = stays_known (Err c.halt.result) reads;
       again = none_before _ c.lines.invariant.before;
     }
@@ -147,37 +143,33 @@ returns-in-Err-write_all g c =
     let q = reads_then (quiet g at.In-Ok) (reads_passed passes) in
     let err = rw c.deref-in-lines.ensures.value at c.in-Err-write_all.ensures.wrote in
     record {
-      keeps = q.keeps;
       printed = printed_before c.lines.invariant.printed err;
       grows = grows_reported c.pass_lines-passed.new.self.run q.still;
-      ok = λ _. tt;
+      ok = λ _ _. tt;
       ended = tt;
-      prefix = λ tells. fails_prefix _ _ _ _ _ _ _ _
-          (more g at.After-pass_lines-passed tells) (g.W.Sink.model c.write_all.new.out) err;
-      stops = λ tells before. record {
+      prefix = λ seen it. fails_prefix _ _ _ _ _ _ _ _
+          (more g at.After-pass_lines-passed seen it) (g.W.Sink.model c.write_all.new.out) err;
+      stops = λ seen it before. record {
         why = tt;
-        reported = tells_some _ _ _ _ _ (more g at.After-pass_lines-passed tells).yields;
+        reported = tells_some _ _ _ _ _ (more g at.After-pass_lines-passed seen it).yields;
       };
-      fault = λ tells before is. fails_among _ _ _ _ _ _ _ _
-          (more g at.After-pass_lines-passed tells) (g.W.Sink.model c.write_all.new.out) err;
-      blames = λ before. blames_write _ _ _ _ (passes.stopped ∙ c.in-Ok.ensures.leaves.running) q.failed
+      fault = λ seen it before is. fails_among _ _ _ _ _ _ _ _
+          (more g at.After-pass_lines-passed seen it) (g.W.Sink.model c.write_all.new.out) err;
+      reads = λ before. (λ file. [], q.shelf.1);
+      blames = λ before. blames_write _ _ _ _ (passes.stopped ∙ c.in-Ok.ensures.leaves.running)
           (failed_next c.lines.invariant.printed err);
-      known = λ tells known. record {
-        readers = q.readers tells known;
-        blamed = λ before. blames_none [] _ _ WriteFault refl (q.blamed tells known);
-      };
+      known = λ seen it known.
+          let stays = q.readers seen it known in record { readers = stays.0; blamed = λ before. stays.1 };
       again = none_before _ c.lines.invariant.before;
     }
 
-wrote : (g : given.Over) (c : In_default-write_all g) → IsTrue (g.S.Shelf.tells c.args.shelf.now)
-    → HasWritten (so_far
-    c.args.merger.now) (so_far_of c.pass_lines-passed.new.self.run)
-    (to_come g.S.Shelf c.args.shelf.now c.args.merger.now)
-    (events_to_come (g.S.Shelf.texts c.next_line.new.shelf) (g.S.Shelf.left c.next_line.new.shelf)
-    c.pass_lines-passed.new.self.run) (Writes (g.W.Sink.model c.args.out.now)
-    (g.W.Sink.model c.write_all.new.out))
-wrote g c tells = written_on _ _ _ _ _ _ _ _
-    (more g (goal.at.In_default-write_all g c).After-pass_lines-passed tells) (g.W.Sink.model c.write_all.new.out)
+wrote : (g : given.Over) (c : In_default-write_all g) (seen : ShelfContents g.row.S-R.Denot)
+    → (g.S.Shelf.model c.args.shelf.now).contents ≡ Some seen
+    → HasWritten (so_far c.args.merger.now) (so_far_of c.pass_lines-passed.new.self.run)
+    (to_come seen c.args.merger.now) (events_to_come seen.texts seen.left c.pass_lines-passed.new.self.run)
+    (Writes (g.W.Sink.model c.args.out.now) (g.W.Sink.model c.write_all.new.out))
+wrote g c seen it = written_on _ _ _ _ _ _ _ _
+    (more g (goal.at.In_default-write_all g c).After-pass_lines-passed seen it) (g.W.Sink.model c.write_all.new.out)
     (rw c.deref-in-lines.ensures.value at c.in_default-write_all.ensures.wrote)
 
 pub returns-in-Err-passed : goal.returns-in-Err-passed
@@ -189,21 +181,20 @@ returns-in-Err-passed g c =
     let reads = reads_then (reads_then (quiet g at.In-Ok) (reads_passed passes))
     (reads_halted halted.readers halted.so_far is_memory) in
     record {
-      keeps = reads.keeps;
       printed = printed_all (printed_then _ c.lines.invariant.printed c.in_default-write_all.ensures.wrote);
       grows = grows_reported c.halt-in-Err-passed.new.self.run reads.still;
-      ok = λ _. tt;
+      ok = λ _ _. tt;
       ended = tt;
-      prefix = λ tells. written_prefix _ _ _ _ _ _ (wrote g at.In_default-write_all tells);
-      stops = λ tells before.
-          let written = wrote g at.In_default-write_all tells in
+      prefix = λ seen it. written_prefix _ _ _ _ _ _ (wrote g at.In_default-write_all seen it);
+      stops = λ seen it before.
+          let written = wrote g at.In_default-write_all seen it in
           record {
             why = memory_failed _ _ _ _ _ is_memory (written_some _ _ _ _ _ _ written);
             reported = tells_same _ _ _ _ halted.so_far (tells_some _ _ _ _ _ written.yields);
           };
-      fault = λ tells before is. absurd (memory_write _ _ refl is_memory is);
+      fault = λ seen it before is. absurd (memory_write _ _ refl is_memory is);
+      reads = λ before. reads.shelf;
       blames = λ before. blames_own c.halt-in-Err-passed.result _ _ _ _ (rw is_memory tt) halted.kept halted.named
-          reads.failed
           (failed_same (printed_then _ c.lines.invariant.printed c.in_default-write_all.ensures.wrote));
       known = stays_known (Err c.halt-in-Err-passed.result) reads;
       again = none_before _ c.lines.invariant.before;
@@ -219,5 +210,5 @@ lines-preserved g c =
       running = passes.stopped ∙ c.in-Ok.ensures.leaves.running;
       before = c.lines.invariant.before;
       empty = c.clear.ensures.items;
-      written = λ tells. wrote g at.In_default-write_all tells;
+      written = λ seen it. wrote g at.In_default-write_all seen it;
     }

@@ -1,18 +1,19 @@
-use Rattle.cweb_lines.proofs.Common.{◌≡◌, ◌-◌, None, [], IsTrue, Writes, to_come, so_far, stop_in, HasWritten}
+use Rattle.cweb_lines.proofs.Common.{◌≡◌, ◌-◌, None, [], Writes, to_come, so_far, stop_in, HasWritten}
 use Rattle.cweb_lines.proofs.BufferedWrites.{Printed}
+use Rattle.cweb_files.specs.Shelves.{Observed}
 use Rattle.cweb_lines.proofs.NoReadFails.{Quiet}
 use Rattle.cweb_lines.proofs.writing.write_merged_in_chunks.Given as goal
 
 abbrev pub invariant-lines : goal.invariant-lines
 invariant-lines g l = record {
-  quiet : Quiet g.S.Shelf l.fn.shelf l.shelf l.fn.merger.run l.merger.run;
+  quiet : Quiet (g.S.Shelf.model l.fn.shelf) (g.S.Shelf.model l.shelf) l.fn.merger.run l.merger.run;
   printed : Printed (g.W.Sink.model l.fn.out) (g.W.Sink.model l.out);
   running : stop_in l.merger ≡ None;
   before : stop_in l.fn.merger ≡ None;
   empty : l.buffer.items ≡ [];
-  written : IsTrue (g.S.Shelf.tells l.fn.shelf) → HasWritten (so_far l.fn.merger) (so_far l.merger)
-      (to_come g.S.Shelf l.fn.shelf l.fn.merger) (to_come g.S.Shelf l.shelf l.merger)
-      (Writes (g.W.Sink.model l.fn.out) (g.W.Sink.model l.out));
+  written : Observed (g.S.Shelf.model l.fn.shelf) (λ seen. HasWritten (so_far l.fn.merger) (so_far l.merger)
+      (to_come seen l.fn.merger) (to_come seen l.merger)
+      (Writes (g.W.Sink.model l.fn.out) (g.W.Sink.model l.out)));
 }
 
 abbrev pub decreases-lines : goal.decreases-lines

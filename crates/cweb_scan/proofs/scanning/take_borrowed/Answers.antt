@@ -10,9 +10,9 @@ stretches-preserved g c =
     let takes = c.take_ahead.ensures read.0 read.1.comes in
     record {
       borrowed = borrows_then _ c.stretches.merger.run _ inv.borrowed takes.borrows;
-      taken = λ tells first all texts left taken.
-          read_taken c.stretches.merger.run _ read.0 tells first all _ _ c.stretches.reader _ takes read.1.read
-          (λ reported. takes.emitted.yields texts left) (inv.taken tells first all texts left taken);
+      taken = λ shelf first all taken.
+          read_taken c.stretches.merger.run _ read.0 shelf first all _ _ c.stretches.reader _ takes read.1.read
+          (λ seen it. takes.emitted.yields seen.texts seen.left) (inv.taken shelf first all taken);
       room = omega (arith, read.1.read.adds, inv.room, takes.bytes, takes.count);
     }
 

@@ -1,17 +1,22 @@
-use Rattle.cweb_scan.proofs.Common.{rules, ◌≡◌, ◌≤◌, ◌+◌, ◌*◌, ℕ, Bool, Option, None, List, [], ◌∷◌, ◌++◌, subst, refl, ap, sym, ◌∙◌, arith, BorrowsLines, Event, blame, read_failures_of, SoFar, events_to_come, so_far, to_come, Merger, Stop, ScanEndsEarly, HasTaken, ReaderModel, cost, read_after, yields_both}
-use Rattle.cweb_files.specs.declared.device.Shelf.{Ghosts as Shelf}
+use Rattle.cweb_scan.proofs.Common.{rules, ◌≡◌, ◌≤◌, ◌+◌, ◌*◌, ℕ, None, Some, List, [], ◌∷◌, ◌++◌, subst, refl, ap, sym, ◌∙◌, arith, BorrowsLines, Event, SoFar, so_far, to_come, Merger, Stop, ScanEndsEarly, HasTaken, ReaderModel, cost, read_after, yields_both}
+use Rattle.std.specs.Prelude.{Result, Ok, Err}
+use Rattle.cweb_files.specs.Shelves.{ShelfContents, ShelfModel}
+use Rattle.cweb_input.specs.surface.ReaderNames.{ReadsShelf}
+use Rattle.cweb_lines.proofs.NoReadFails.{unread}
 use Rattle.cweb_lines.proofs.ReportsOnlyGrow.{reported_files, reported_same, reported_then}
-use Rattle.cweb_files.proofs.FramesCompose.{keeps_same, keeps_known, keeps_then}
-use Rattle.cweb_scan.proofs.Scans.{nothing_taken, emitted_line_taken, grows_to, grows_then, none_blamed, all_within, all_scanned, ends_early, refused}
+use Rattle.cweb_scan.proofs.Scans.{nothing_taken, emitted_line_taken, grows_to, grows_then, all_within, all_scanned, ends_early, refused}
 use Rattle.cweb_scan.proofs.scanning.take_lines.Invariants.{HasScanned}
 use Rattle.cweb_scan.proofs.scanning.take_lines.Goals as goal
 
+-- The contents are the same after lines were taken.
+still : {R : Type 0} {was now : ShelfModel R} {seen : ShelfContents R} → now ≡ was → was.contents ≡ Some seen
+    → now.contents ≡ Some seen
+still same it = ap (λ (s : ShelfModel R). s.contents) same ∙ it
+
 pub lines-init : goal.lines-init
 lines-init g c = record {
-  keeps = keeps_same g.S.Shelf _;
-  failed = refl;
-  readers = λ tells known. known;
-  blamed = λ tells known. refl;
+  same = refl;
+  readers = λ seen it known. known;
   running = c.requires.running;
   reported = reported_same _ _ refl refl;
   taken = rw c.requires.fresh (nothing_taken _ _ _);
@@ -33,65 +38,85 @@ returns-in-Err-take_borrowed-clause-grows g c =
     c.in-Err-take_borrowed.ensures.borrowed.grows)
 
 pub returns-in-Err-take_borrowed-clause-stops : goal.returns-in-Err-take_borrowed-clause-stops
-returns-in-Err-take_borrowed-clause-stops g c = λ tells.
-    let next = rw c.in-Some.is at (c.in-Ok.ensures.next (keeps_known g.S.Shelf _ _ c.lines.invariant.keeps tells)) in
+returns-in-Err-take_borrowed-clause-stops g c = λ seen it.
+    let next = rw c.in-Some.is at (c.in-Ok.ensures.next seen (still c.lines.invariant.same it)) in
     let borrowed = c.in-Err-take_borrowed.ensures.borrowed in
     let halt = c.halt-in-Err-take_borrowed in
     subst (λ (stop : Stop). ScanEndsEarly stop
-    (so_far c.args.merger.now) (so_far halt.new.self) (to_come g.S.Shelf c.args.shelf.now c.args.merger.now))
+    (so_far c.args.merger.now) (so_far halt.new.self) (to_come seen c.args.merger.now))
     (sym (halt.ensures.stop (borrowed.stopped ∙ c.in-Ok.ensures.leaves.running)))
     (refused _ _ _ _ _ _ halt.ensures.so_far
-    (yields_both _ _ _ _ _ _ _ _ (yields_both _ _ _ _ _ _ _ _ (c.lines.invariant.taken.yields tells) next)
-    (borrowed.yields (g.S.Shelf.texts c.next_line.new.shelf) (g.S.Shelf.left c.next_line.new.shelf)).1))
+    (yields_both _ _ _ _ _ _ _ _ (yields_both _ _ _ _ _ _ _ _ (c.lines.invariant.taken.yields seen it) next)
+    (borrowed.yields seen.texts seen.left).1))
 
 pub returns-in-Err-take_borrowed-clause-blamed : goal.returns-in-Err-take_borrowed-clause-blamed
-returns-in-Err-take_borrowed-clause-blamed g c = λ tells known.
+returns-in-Err-take_borrowed-clause-blamed g c = λ seen it known.
     let inv = c.lines.invariant in
-    none_blamed _ _ _ _ (c.halt-in-Err-take_borrowed.ensures.stop
+    unread (Err c.halt-in-Err-take_borrowed.result) _ ((c.in-Ok.ensures.blames inv.running).reads.1 ∙ inv.same)
+    (c.halt-in-Err-take_borrowed.ensures.stop
     (c.in-Err-take_borrowed.ensures.borrowed.stopped ∙ c.in-Ok.ensures.leaves.running))
-    ((c.in-Ok.ensures.known (keeps_known g.S.Shelf _ _ inv.keeps tells) (inv.readers tells known)).blamed inv.running
-    ∙ inv.blamed tells known)
 
 -- The merger stopped.
 pub returns-in-Err-clause-stops : goal.returns-in-Err-clause-stops
-returns-in-Err-clause-stops g c = λ tells. ends_early _ _ _ _ _ _ _ (c.lines.invariant.taken.yields tells)
-    (c.in-Err.ensures.stops (keeps_known g.S.Shelf _ _ c.lines.invariant.keeps tells) c.lines.invariant.running)
+returns-in-Err-clause-stops g c = λ seen it. ends_early _ _ _ _ _ _ _ (c.lines.invariant.taken.yields seen it)
+    (c.in-Err.ensures.stops seen (still c.lines.invariant.same it) c.lines.invariant.running)
+
+pub returns-in-Err-clause-reads : goal.returns-in-Err-clause-reads
+returns-in-Err-clause-reads g c =
+    rw c.lines.invariant.same at (c.in-Err.ensures.blames c.lines.invariant.running).reads
+
+-- No read failed.
+pub returns-in_default-clause-reads : goal.returns-in_default-clause-reads
+returns-in_default-clause-reads g c =
+    rw c.lines.invariant.same at (c.in-Ok.ensures.blames c.lines.invariant.running).reads
+
+pub returns-in-Err-take_line-clause-reads : goal.returns-in-Err-take_line-clause-reads
+returns-in-Err-take_line-clause-reads g c =
+    let inv = c.lines.invariant in (
+      λ file. [],
+      unread (Err c.halt.result) _ ((c.in-Ok.ensures.blames inv.running).reads.1 ∙ inv.same)
+          (c.halt.ensures.stop c.in-Ok.ensures.leaves.running),
+    )
+
+pub returns-in-Err-take_borrowed-clause-reads : goal.returns-in-Err-take_borrowed-clause-reads
+returns-in-Err-take_borrowed-clause-reads g c =
+    let inv = c.lines.invariant in (
+      λ file. [],
+      unread (Err c.halt-in-Err-take_borrowed.result) _ ((c.in-Ok.ensures.blames inv.running).reads.1 ∙ inv.same)
+          (c.halt-in-Err-take_borrowed.ensures.stop
+          (c.in-Err-take_borrowed.ensures.borrowed.stopped ∙ c.in-Ok.ensures.leaves.running)),
+    )
 
 pub returns-in-Err-clause-blames : goal.returns-in-Err-clause-blames
 returns-in-Err-clause-blames g c =
     let blames = c.in-Err.ensures.blames c.lines.invariant.running in
     record {
       kind = blames.reading;
-      failed = blames.failed ∙ ap (λ n. n + read_failures_of c.in-Err.stop) c.lines.invariant.failed;
       kept = c.in-Err.ensures.leaves.kept;
     }
 
 -- An allocation for a line failed.
 pub returns-in-Err-take_line-clause-stops : goal.returns-in-Err-take_line-clause-stops
-returns-in-Err-take_line-clause-stops g c = λ tells.
-    let next = rw c.in-Some.is at (c.in-Ok.ensures.next (keeps_known g.S.Shelf _ _ c.lines.invariant.keeps tells)) in
+returns-in-Err-take_line-clause-stops g c = λ seen it.
+    let next = rw c.in-Some.is at (c.in-Ok.ensures.next seen (still c.lines.invariant.same it)) in
     subst (λ (stop : Stop). ScanEndsEarly stop (so_far c.args.merger.now) (so_far c.halt.new.self)
-    (to_come g.S.Shelf c.args.shelf.now c.args.merger.now)) (sym (c.halt.ensures.stop c.in-Ok.ensures.leaves.running))
+    (to_come seen c.args.merger.now)) (sym (c.halt.ensures.stop c.in-Ok.ensures.leaves.running))
     (refused _ _ _ _ _ _ c.halt.ensures.so_far (yields_both _ _ _ _ _ _ _ _
-    (c.lines.invariant.taken.yields tells) next))
+    (c.lines.invariant.taken.yields seen it) next))
 
 -- Lines were borrowed.
-after_borrowed : {S R : Type 0} (shelf : Shelf S R) (before now : S) (old merger new : Merger S R)
-    (reader next : ReaderModel)
-    → HasScanned shelf before now old merger reader → BorrowsLines merger.run new.run → ((tells : Bool) (first : SoFar)
-    (all : List Event) (texts : List ℕ → Option (List ℕ)) (left : R → List ℕ) → HasTaken tells first (so_far merger)
-    all (events_to_come texts left merger.run) reader
-    → HasTaken tells first (so_far new) all (events_to_come texts left new.run) next)
-    → cost next ≤ 3 * ((so_far new).count.bytes + (so_far new).count.lines) → HasScanned shelf before now old new next
-after_borrowed shelf before now old merger new reader next scanned borrowed taken room = record {
-  keeps = scanned.keeps;
-  failed = scanned.failed;
-  readers = λ tells known. borrowed.readers (shelf.opened_as now) (scanned.readers tells known);
-  blamed = scanned.blamed;
+after_borrowed : {S R : Type 0} (before now : ShelfModel R) (old merger new : Merger S R) (reader next : ReaderModel)
+    → HasScanned before now old merger reader → BorrowsLines merger.run new.run → ((shelf : ShelfModel R)
+    (first : SoFar) (all : ShelfContents R → List Event)
+    → HasTaken shelf first (so_far merger) all (λ seen. to_come seen merger) reader
+    → HasTaken shelf first (so_far new) all (λ seen. to_come seen new) next)
+    → cost next ≤ 3 * ((so_far new).count.bytes + (so_far new).count.lines) → HasScanned before now old new next
+after_borrowed before now old merger new reader next scanned borrowed taken room = record {
+  same = scanned.same;
+  readers = λ seen it known. borrowed.readers seen.opened_as (scanned.readers seen it known);
   running = borrowed.stopped ∙ scanned.running;
   reported = reported_then _ _ _ scanned.reported borrowed.grows.reported;
-  taken = taken (shelf.tells before) (so_far old) (to_come shelf before old) (shelf.texts now) (shelf.left now)
-      scanned.taken;
+  taken = taken before (so_far old) (λ seen. to_come seen old) scanned.taken;
   room = room;
 }
 
@@ -99,23 +124,19 @@ pub lines-preserved : goal.lines-preserved
 lines-preserved g c =
     let emitted = rw c.in-Some.is at c.in-Ok.ensures.emitted in
     let borrowed = c.in_default-take_borrowed.ensures in
-    after_borrowed g.S.Shelf c.args.shelf.now c.next_line.new.shelf c.args.merger.now c.next_line.new.self
-    c.take_borrowed.new.merger c.take_line.new.self c.take_borrowed.new.reader (record {
-      keeps = keeps_then g.S.Shelf _ _ _ c.lines.invariant.keeps c.in-Ok.ensures.keeps;
-      failed = search rules;
-      readers = λ tells known. (c.in-Ok.ensures.known (keeps_known g.S.Shelf _ _ c.lines.invariant.keeps tells)
-          (c.lines.invariant.readers tells known)).readers;
-      blamed = λ tells known. (c.in-Ok.ensures.known (keeps_known g.S.Shelf _ _ c.lines.invariant.keeps tells)
-          (c.lines.invariant.readers tells known)).blamed c.lines.invariant.running
-          ∙ c.lines.invariant.blamed tells known;
+    after_borrowed (g.S.Shelf.model c.args.shelf.now) (g.S.Shelf.model c.next_line.new.shelf) c.args.merger.now
+    c.next_line.new.self c.take_borrowed.new.merger c.take_line.new.self c.take_borrowed.new.reader (record {
+      same = (c.in-Ok.ensures.blames c.lines.invariant.running).reads.1 ∙ c.lines.invariant.same;
+      readers = λ seen it known. (c.in-Ok.ensures.known seen (still c.lines.invariant.same it)
+          (c.lines.invariant.readers seen it known)).readers;
       running = c.in-Ok.ensures.leaves.running;
       reported = reported_then _ _ _ c.lines.invariant.reported c.in-Ok.ensures.grows.reported;
       taken = emitted_line_taken _ _ _ _ _ _ _ _ _
           (record { bytes = c.next_line.new.line.items; place = c.in-Some.place }) c.lines.invariant.taken emitted
           (reported_files _ _ c.in-Ok.ensures.grows.reported) (λ more. subst (λ (bytes : List ℕ). read_after
           c.take_line.new.self more ≡ read_after c.lines.reader (record { bytes = bytes; place = c.in-Some.place }
-          ∷ more)) c.deref.ensures.value (c.in_default-take_line.ensures.read more)) (λ tells.
-          rw c.in-Some.is at (c.in-Ok.ensures.next (keeps_known g.S.Shelf _ _ c.lines.invariant.keeps tells)));
+          ∷ more)) c.deref.ensures.value (c.in_default-take_line.ensures.read more)) (λ seen it.
+          rw c.in-Some.is at (c.in-Ok.ensures.next seen (still c.lines.invariant.same it)));
       room =
           omega (
             arith,
@@ -129,17 +150,15 @@ lines-preserved g c =
 
 -- The file that a stop blames.
 pub returns-in-Err-clause-blamed : goal.returns-in-Err-clause-blamed
-returns-in-Err-clause-blamed g c = λ tells known.
+returns-in-Err-clause-blamed g c = λ seen it known.
     let inv = c.lines.invariant in
-    (c.in-Err.ensures.known (keeps_known g.S.Shelf _ _ inv.keeps tells) (inv.readers tells known)).blamed inv.running
-    ∙ ap (λ (names : List (List ℕ)). names ++ blame (so_far c.next_line.new.self).names c.in-Err.stop)
-    (inv.blamed tells known)
+    rw inv.same at ((c.in-Err.ensures.known seen (still inv.same it) (inv.readers seen it known)).blamed inv.running)
 
 pub returns-in-Err-take_line-clause-blamed : goal.returns-in-Err-take_line-clause-blamed
-returns-in-Err-take_line-clause-blamed g c = λ tells known.
+returns-in-Err-take_line-clause-blamed g c = λ seen it known.
     let inv = c.lines.invariant in
-    none_blamed _ _ _ _ (c.halt.ensures.stop c.in-Ok.ensures.leaves.running) ((c.in-Ok.ensures.known
-    (keeps_known g.S.Shelf _ _ inv.keeps tells) (inv.readers tells known)).blamed inv.running ∙ inv.blamed tells known)
+    unread (Err c.halt.result) _ ((c.in-Ok.ensures.blames inv.running).reads.1 ∙ inv.same)
+    (c.halt.ensures.stop c.in-Ok.ensures.leaves.running)
 
 -- At least one line was taken.
 pub lines-smaller : goal.lines-smaller
@@ -155,10 +174,10 @@ lines-smaller g c =
 
 -- No line is left.
 pub returns-in_default-clause-scans : goal.returns-in_default-clause-scans
-returns-in_default-clause-scans g c = λ tells.
-    let next = rw c.in_default.is at (c.in-Ok.ensures.next (keeps_known g.S.Shelf _ _ c.lines.invariant.keeps tells)) in
+returns-in_default-clause-scans g c = λ seen it.
+    let next = rw c.in_default.is at (c.in-Ok.ensures.next seen (still c.lines.invariant.same it)) in
     let taken = c.lines.invariant.taken in
-    all_scanned _ _ _ _ _ _ _ c.lines.reader _ taken.read_is taken.few (taken.yields tells) refl next.0 next.1
+    all_scanned _ _ _ _ _ _ _ c.lines.reader _ taken.read_is taken.few (taken.yields seen it) refl next.0 next.1
 
 pub returns-in_default-clause-within : goal.returns-in_default-clause-within
 returns-in_default-clause-within g c =
@@ -170,7 +189,5 @@ pub returns-in_default-clause-grows : goal.returns-in_default-clause-grows
 returns-in_default-clause-grows g c = grows_then _ _ _ c.lines.invariant.reported c.in-Ok.ensures.grows
 
 pub returns-in_default-clause-blamed : goal.returns-in_default-clause-blamed
-returns-in_default-clause-blamed g c = λ tells known.
-    let inv = c.lines.invariant in
-    (c.in-Ok.ensures.known (keeps_known g.S.Shelf _ _ inv.keeps tells) (inv.readers tells known)).blamed inv.running
-    ∙ inv.blamed tells known
+returns-in_default-clause-blamed g c = λ seen it known.
+    (c.in-Ok.ensures.blames c.lines.invariant.running).reads.1 ∙ c.lines.invariant.same

@@ -3,8 +3,8 @@ use Rattle.cweb_lines.proofs.Compares.{compares_some}
 use Rattle.cweb_lines.proofs.change.old_side.compare.Goals as goal
 
 pub returns-then-eq-clause-compares : goal.returns-then-eq-clause-compares
-returns-then-eq-clause-compares g c = λ tells.
-    let taken = (rw (c.in-Some.is, c.requires.floor) at (c.in-Ok.ensures.taken tells)) [] in
+returns-then-eq-clause-compares g c = λ seen it.
+    let taken = (rw (c.in-Some.is, c.requires.floor) at (c.in-Ok.ensures.taken seen it)) [] in
     let first = c.as_slice-2.ensures.value ∙ ap (λ (v : Vec ℕ Global). v.items) c.in-Ok.ensures.takes.only.first in
     let test : bytes_eq c.take_raw.new.line.items c.args.run.now.first.items ≡ true =
     (λ i. bytes_eq (sym c.as_slice.ensures.value i) (sym first i)) ∙ sym c.eq.ensures ∙ c.if-eq.true in
@@ -14,8 +14,8 @@ returns-then-eq-clause-compares g c = λ tells.
     (ap (λ b. if b then c.args.so_far.unequal else c.args.so_far.unequal + 1) (sym test)) refl
 
 pub returns-clause-compares : goal.returns-clause-compares
-returns-clause-compares g c = λ tells.
-    let taken = (rw (c.in-Some.is, c.requires.floor) at (c.in-Ok.ensures.taken tells)) [] in
+returns-clause-compares g c = λ seen it.
+    let taken = (rw (c.in-Some.is, c.requires.floor) at (c.in-Ok.ensures.taken seen it)) [] in
     let first = c.as_slice-2.ensures.value ∙ ap (λ (v : Vec ℕ Global). v.items) c.in-Ok.ensures.takes.only.first in
     let test : bytes_eq c.take_raw.new.line.items c.args.run.now.first.items ≡ false =
     (λ i. bytes_eq (sym c.as_slice.ensures.value i) (sym first i)) ∙ sym c.eq.ensures ∙ c.if-eq.false in

@@ -1,7 +1,7 @@
-use Rattle.cweb_lines.proofs.Common.{rules, ◌≡◌, [], ℕ, List, Vec, Global, Some, refl, ap, sym, subst, ◌∙◌, IsTrue, change_code, counters_of, Thing, change_lines, so_far_of, opened_file_names, lines_at, things_above, StopsFor, TopStops}
+use Rattle.cweb_lines.proofs.Common.{rules, ◌≡◌, [], ℕ, List, Vec, Global, Some, refl, ap, sym, subst, ◌∙◌, change_code, counters_of, Thing, change_lines, so_far_of, opened_file_names, lines_at, things_above, StopsFor, TopStops}
 use Rattle.cweb_lines.specs.declared.change.code.Code.TheVariants.{NewSide as new_side}
 use Rattle.cweb_lines.proofs.ReportsOnlyGrow.{took_faults, took_names}
-use Rattle.cweb_lines.proofs.NoReadFails.{Quiet, reads_reported, reads_set, reads_then, still_tells}
+use Rattle.cweb_lines.proofs.NoReadFails.{Quiet, quiet_same, reads_reported, reads_set, reads_then, still_seen}
 use Rattle.cweb_lines.proofs.Replaces.{compares_same, is_replaced_same, replaces_same, replaces_ends, replaces_new, replaces_code, replaces_line, raw_ends}
 use Rattle.cweb_lines.proofs.Codes.{is_new, is_faulty}
 use Rattle.cweb_lines.proofs.Stops.{reported_stays, reported_uncounted}
@@ -9,46 +9,51 @@ use Rattle.cweb_lines.proofs.change.old_side.replace.Given as given
 use Rattle.cweb_lines.proofs.change.old_side.replace.Goals as goal
 use Rattle.cweb_lines.proofs.change.old_side.replace.Goals.{In-Ok}
 
-quiet : (g : given.Over) (c : In-Ok g) → Quiet g.S.Shelf c.args.shelf.now c.take_change.new.shelf c.args.run.now
+quiet : (g : given.Over) (c : In-Ok g) → Quiet (g.S.Shelf.model c.args.shelf.now) (g.S.Shelf.model c.take_change.new.shelf) c.args.run.now
     c.take_change.new.run
 quiet g c = reads_then c.lines.invariant.quiet c.in-Ok.ensures.takes.reads
 
-raws : (g : given.Over) (c : In-Ok g) → IsTrue (g.S.Shelf.tells c.args.shelf.now)
-    → things_above (g.S.Shelf.left c.take_change.new.shelf) 0 c.take_change.new.run.stack []
-    ≡ things_above (g.S.Shelf.left c.lines.shelf) 0 c.lines.run.stack []
-raws g c tells =
-    let still = still_tells c.lines.invariant.quiet tells in
-    λ i. things_above (c.in-Ok.ensures.takes.reads.keeps.left still i) 0 (c.in-Ok.ensures.stack i) []
+pub lines-init : goal.lines-init
+lines-init g c = record {
+  quiet = quiet_same _ _;
+  frame = search rules;
+  goes_on = search rules;
+  replaces = search rules;
+}
+
+raws : (g : given.Over) (c : In-Ok g) (left : g.row.S-R.Denot → List ℕ)
+    → things_above left 0 c.take_change.new.run.stack [] ≡ things_above left 0 c.lines.run.stack []
+raws g c left = λ i. things_above left 0 (c.in-Ok.ensures.stack i) []
 
 pub returns-in-Err-clause-stops : goal.returns-in-Err-clause-stops
-returns-in-Err-clause-stops g c = λ tells. replaces_ends _ c.lines.so_far _ _ _ _
-    (c.lines.invariant.replaces tells) c.in-Err.stop (so_far_of c.take_change.new.run)
+returns-in-Err-clause-stops g c = λ seen it. replaces_ends _ c.lines.so_far _ _ _ _
+    (c.lines.invariant.replaces seen it) c.in-Err.stop (so_far_of c.take_change.new.run)
     (reported_stays c.lines.run _ c.in-Err.ensures.takes.only c.in-Err.ensures.takes.answers.counted)
-    (c.in-Err.ensures.stops (still_tells c.lines.invariant.quiet tells))
+    (c.in-Err.ensures.stops seen (still_seen c.lines.invariant.quiet it))
 
 pub returns-in-Err-compare-clause-stops : goal.returns-in-Err-compare-clause-stops
-returns-in-Err-compare-clause-stops g c = λ tells.
-    let still = still_tells c.lines.invariant.quiet tells in
-    let taken = rw c.in-Some.is at (c.in-Ok.ensures.taken still) in
+returns-in-Err-compare-clause-stops g c = λ seen it.
+    let taken = rw c.in-Some.is at (c.in-Ok.ensures.taken seen (still_seen c.lines.invariant.quiet it)) in
     let test = ap change_code (sym c.deref.ensures.value) ∙ sym c.change_code.ensures ∙ c.in-None.is in
     let same = reported_uncounted _ c.compare.new.run c.in-Err-compare.ensures.only c.in-Err-compare.ensures.away.same
     in
-    raw_ends _ c.lines.so_far _ _ _ _ (c.lines.invariant.replaces tells) (so_far_of c.take_change.new.run)
+    raw_ends _ c.lines.so_far _ _ _ _ (c.lines.invariant.replaces seen it) (so_far_of c.take_change.new.run)
     c.take_change.new.line.items c.in-Some.at.place taken.0 _ taken.1 (took_faults c.in-Ok.ensures.takes.only)
     (took_names c.in-Ok.ensures.takes.only) c.in-Err-compare.stop (so_far_of c.compare.new.run) same test
     (subst (λ (ts : List Thing). StopsFor (TopStops c.in-Err-compare.stop (counters_of c.take_change.new.run.limits) ts)
-    c.in-Err-compare.stop) (raws g (goal.at.returns-in-Err-compare-clause-stops g c).In-Ok tells)
-    (c.in-Err-compare.ensures.stops (subst IsTrue (sym c.in-Ok.ensures.takes.reads.keeps.tells) still)))
+    c.in-Err-compare.stop) (raws g (goal.at.returns-in-Err-compare-clause-stops g c).In-Ok seen.left)
+    (c.in-Err-compare.ensures.stops seen
+    (still_seen (quiet g (goal.at.returns-in-Err-compare-clause-stops g c).In-Ok) it)))
 
 pub returns-then-eq-clause-replaced : goal.returns-then-eq-clause-replaced
-returns-then-eq-clause-replaced g c = λ tells.
-    let taken = rw c.in-Some.is at (c.in-Ok.ensures.taken (still_tells c.lines.invariant.quiet tells)) in
+returns-then-eq-clause-replaced g c = λ seen it.
+    let taken = rw c.in-Some.is at (c.in-Ok.ensures.taken seen (still_seen c.lines.invariant.quiet it)) in
     let test : change_code c.take_change.new.line.items ≡ Some new_side = ap change_code (sym c.deref.ensures.value)
     ∙ sym c.change_code.ensures ∙ c.in-Some-change_code.is
     ∙ ap Some (is_new c.in-Some-change_code.code (sym c.eq.ensures ∙ c.if-eq.true)) in
     is_replaced_same _ _ _ _ _ _ _ _ (sym c.lines.invariant.goes_on)
-    (sym (raws g (goal.at.returns-then-eq-clause-replaced g c).In-Ok tells)) (replaces_new _ c.lines.so_far _ _ _ _
-    (c.lines.invariant.replaces tells) (so_far_of c.take_change.new.run) c.take_change.new.line.items
+    (sym (raws g (goal.at.returns-then-eq-clause-replaced g c).In-Ok seen.left)) (replaces_new _ c.lines.so_far _ _ _ _
+    (c.lines.invariant.replaces seen it) (so_far_of c.take_change.new.run) c.take_change.new.line.items
     c.in-Some.at.place taken.0 _ taken.1 (took_faults c.in-Ok.ensures.takes.only) (took_names
     c.in-Ok.ensures.takes.only) test)
 
@@ -58,19 +63,19 @@ lines-preserved g c = record {
       c.in_default-report.ensures.reported tt);
   frame = search rules;
   goes_on = c.lines.invariant.goes_on;
-  replaces = λ tells.
-      let taken = rw c.in-Some.is at (c.in-Ok.ensures.taken (still_tells c.lines.invariant.quiet tells)) in
-      let change : change_lines (g.S.Shelf.left c.take_change.new.shelf) c.take_change.new.run
-      ≡ change_lines (g.S.Shelf.left c.take_change.new.shelf) c.report.new.self =
-      ap (λ ch. lines_at (g.S.Shelf.left c.take_change.new.shelf) ch) (sym c.in_default-report.ensures.only.change) in
-      let same : things_above (g.S.Shelf.left c.lines.shelf) 0 c.lines.run.stack []
-      ≡ things_above (g.S.Shelf.left c.take_change.new.shelf) 0 c.report.new.self.stack [] =
-      sym (raws g (goal.at.lines-preserved g c).In-Ok tells)
-      ∙ ap (λ s. things_above (g.S.Shelf.left c.take_change.new.shelf) 0 s [])
+  replaces = λ seen it.
+      let taken = rw c.in-Some.is at (c.in-Ok.ensures.taken seen (still_seen c.lines.invariant.quiet it)) in
+      let change : change_lines seen.left c.take_change.new.run
+      ≡ change_lines seen.left c.report.new.self =
+      ap (λ ch. lines_at seen.left ch) (sym c.in_default-report.ensures.only.change) in
+      let same : things_above seen.left 0 c.lines.run.stack []
+      ≡ things_above seen.left 0 c.report.new.self.stack [] =
+      sym (raws g (goal.at.lines-preserved g c).In-Ok seen.left)
+      ∙ ap (λ s. things_above seen.left 0 s [])
       (sym c.in_default-report.ensures.only.stack) in
       let test = ap change_code (sym c.deref.ensures.value) ∙ sym c.change_code.ensures ∙ c.in-Some-change_code.is in
       replaces_same _ _ _ _ _ _ _ _ change same (replaces_code _ c.lines.so_far _ _ _ _
-      (c.lines.invariant.replaces tells) (so_far_of c.take_change.new.run) c.take_change.new.line.items
+      (c.lines.invariant.replaces seen it) (so_far_of c.take_change.new.run) c.take_change.new.line.items
       c.in-Some.at.place taken.0 _ taken.1 (took_faults c.in-Ok.ensures.takes.only) (took_names
       c.in-Ok.ensures.takes.only) c.in-Some-change_code.code (so_far_of c.report.new.self) test (is_faulty
       c.in-Some-change_code.code _ _ _ _ (sym c.eq.ensures ∙ c.if-eq.false)) c.in_default-report.ensures.reported (ap
@@ -83,18 +88,25 @@ lines-preserved-in-None g c = record {
   quiet = search (rules, reads_then, reads_set);
   frame = search rules;
   goes_on = c.in-Ok-compare.ensures.away.ended ∙ c.lines.invariant.goes_on;
-  replaces = λ tells.
-      let still = still_tells c.lines.invariant.quiet tells in
-      let later = subst IsTrue (sym c.in-Ok.ensures.takes.reads.keeps.tells) still in
-      let taken = rw c.in-Some.is at (c.in-Ok.ensures.taken still) in
+  replaces = λ seen it.
+      let taken = rw c.in-Some.is at (c.in-Ok.ensures.taken seen (still_seen c.lines.invariant.quiet it)) in
       let test = ap change_code (sym c.deref.ensures.value) ∙ sym c.change_code.ensures ∙ c.in-None.is in
-      let change : change_lines (g.S.Shelf.left c.take_change.new.shelf) c.take_change.new.run
-      ≡ change_lines (g.S.Shelf.left c.compare.new.shelf) c.compare.new.run =
-      λ i. lines_at (sym (c.in-Ok-compare.ensures.reads.keeps.left later) i) (sym c.in-Ok-compare.ensures.change i) in
+      let change : change_lines seen.left c.take_change.new.run
+      ≡ change_lines seen.left c.compare.new.run =
+      ap (λ ch. lines_at seen.left ch) (sym c.in-Ok-compare.ensures.change) in
       let compares = compares_same _ _ _ _ _ _ _ _ _ (ap (λ (v : Vec ℕ Global). v.items) c.swap.ensures.x_after)
-      (raws g (goal.at.lines-preserved-in-None g c).In-Ok tells) (c.in-Ok-compare.ensures.compares later) in
+      (raws g (goal.at.lines-preserved-in-None g c).In-Ok seen.left) (c.in-Ok-compare.ensures.compares seen
+      (still_seen (quiet g (goal.at.lines-preserved-in-None g c).In-Ok) it)) in
       replaces_same _ _ _ _ _ _ _ _ change refl (replaces_line _ c.lines.so_far _ _ _ _
-      (c.lines.invariant.replaces tells) (so_far_of c.take_change.new.run) c.take_change.new.line.items
+      (c.lines.invariant.replaces seen it) (so_far_of c.take_change.new.run) c.take_change.new.line.items
       c.in-Some.at.place taken.0 _ taken.1 (took_faults c.in-Ok.ensures.takes.only) (took_names
       c.in-Ok.ensures.takes.only) c.in-Ok-compare.replaced _ (so_far_of c.compare.new.run) test compares);
 }
+
+pub returns-in_default-clause-replaced : goal.returns-in_default-clause-replaced
+returns-in_default-clause-replaced g c = λ seen it.
+    let replaces = c.lines.invariant.replaces seen it in
+    let taken = rw c.in_default.is at (c.in-Ok.ensures.taken seen (still_seen c.lines.invariant.quiet it)) in
+    let counted = rw c.in_default.is at c.in-Ok.ensures.takes.answers.counted in
+    let raws_are = raws g (goal.at.returns-in_default-clause-replaced g c).In-Ok seen.left in
+    search rules

@@ -1,10 +1,11 @@
-use Rattle.cweb_lines.proofs.Common.{◌≡◌, ◌≤◌, ◌-◌, false, IsTrue, so_far_of, Replaces, old_side_of}
+use Rattle.cweb_lines.proofs.Common.{◌≡◌, ◌≤◌, ◌-◌, false, so_far_of, Replaces, old_side_of}
+use Rattle.cweb_files.specs.Shelves.{Observed}
 use Rattle.cweb_lines.proofs.NoReadFails.{Quiet}
 use Rattle.cweb_lines.proofs.change.old_side.replace.Given as goal
 
 abbrev pub invariant-lines : goal.invariant-lines
 invariant-lines g l = record {
-  quiet : Quiet g.S.Shelf l.fn.shelf l.shelf l.fn.run l.run;
+  quiet : Quiet (g.S.Shelf.model l.fn.shelf) (g.S.Shelf.model l.shelf) l.fn.run l.run;
   frame : record {
     stage : l.run.stage ≡ l.fn.run.stage;
     inputs : l.run.inputs ≡ l.fn.run.inputs;
@@ -16,8 +17,8 @@ invariant-lines g l = record {
     few : l.so_far.unequal ≤ l.run.limits.lines;
   };
   goes_on : l.so_far.ended ≡ false;
-  replaces : IsTrue (g.S.Shelf.tells l.fn.shelf) → Replaces (old_side_of (g.S.Shelf.left l.fn.shelf) l.fn.run)
-      (old_side_of (g.S.Shelf.left l.shelf) l.run) l.so_far (so_far_of l.fn.run) (so_far_of l.run);
+  replaces : Observed (g.S.Shelf.model l.fn.shelf) (λ seen. Replaces (old_side_of seen.left l.fn.run)
+      (old_side_of seen.left l.run) l.so_far (so_far_of l.fn.run) (so_far_of l.run));
 }
 
 abbrev pub decreases-lines : goal.decreases-lines

@@ -2,7 +2,7 @@ use Rattle.cweb_lines.proofs.Common.{rules, ◌≡◌, ℕ, [], ◌∷◌, ◌++
 use Rattle.cweb_input.proofs.Found.{OnOk-both}
 use Rattle.cweb_lines.proofs.MergeReadersStayNamed.{knows_same}
 use Rattle.cweb_lines.proofs.ReportsOnlyGrow.{reported_if, took_faults, took_names}
-use Rattle.cweb_lines.proofs.NoReadFails.{Quiet, outcome_memory, reads_none, reads_nothing, reads_reported, reads_then, still_tells}
+use Rattle.cweb_lines.proofs.NoReadFails.{Quiet, quiet_same, outcome_memory, reads_none, reads_reported, reads_set, reads_then, still_seen}
 use Rattle.cweb_lines.proofs.Seeks.{seeks_ended, seeks_ends, seeks_in_part, seeks_on, seeks_found}
 use Rattle.cweb_lines.proofs.Stops.{reported_stays}
 use Rattle.cweb_lines.proofs.WrittenLinesAddUp.{tells_same, tells_some}
@@ -10,22 +10,30 @@ use Rattle.cweb_lines.proofs.change.seek.seek.Given as given
 use Rattle.cweb_lines.proofs.change.seek.seek.Goals as goal
 use Rattle.cweb_lines.proofs.change.seek.seek.Goals.{In-Ok, In-Ok-look_at, In-Err-look_at}
 
-quiet : (g : given.Over) (c : In-Ok g) → Quiet g.S.Shelf c.args.shelf.now c.take_change.new.shelf c.args.run.now
+quiet : (g : given.Over) (c : In-Ok g) → Quiet (g.S.Shelf.model c.args.shelf.now) (g.S.Shelf.model c.take_change.new.shelf) c.args.run.now
     c.take_change.new.run
 quiet g c = reads_then c.lines.invariant.quiet c.in-Ok.ensures.takes.reads
 
-looked : (g : given.Over) (c : In-Ok-look_at g) → Quiet g.S.Shelf c.args.shelf.now c.take_change.new.shelf
+pub lines-init : goal.lines-init
+lines-init g c = record {
+  quiet = quiet_same _ _;
+  frame = search rules;
+  begun = search rules;
+  seeks = search rules;
+}
+
+looked : (g : given.Over) (c : In-Ok-look_at g) → Quiet (g.S.Shelf.model c.args.shelf.now) (g.S.Shelf.model c.take_change.new.shelf)
     c.args.run.now c.look_at.new.run
 looked g c = reads_then (quiet g (goal.at.In-Ok-look_at g c).In-Ok) (reads_reported _ c.in-Ok-look_at.ensures.only
     c.in-Ok-look_at.ensures.looks.faults tt)
 
 pub returns-in-Err-clause-stops : goal.returns-in-Err-clause-stops
-returns-in-Err-clause-stops g c = λ tells.
-    let seeks = c.lines.invariant.seeks tells in
+returns-in-Err-clause-stops g c = λ seen it.
+    let seeks = c.lines.invariant.seeks seen it in
     let same = reported_stays c.lines.run _ c.in-Err.ensures.takes.only c.in-Err.ensures.takes.answers.counted in
     record {
       why = seeks_ends _ _ _ _ _ seeks c.in-Err.stop (so_far_of c.take_change.new.run) same
-          (c.in-Err.ensures.stops (still_tells c.lines.invariant.quiet tells));
+          (c.in-Err.ensures.stops seen (still_seen c.lines.invariant.quiet it));
       reported = tells_same _ _ _ _ same (tells_some _ _ _ _ _ seeks.yields);
     }
 
@@ -49,18 +57,18 @@ returns-in-Err-look_at-clause-reads g c =
     (part g at.In-Err-look_at source refl []).reported c.in-Err-look_at.ensures.memory)
 
 pub returns-in-Err-look_at-clause-stops : goal.returns-in-Err-look_at-clause-stops
-returns-in-Err-look_at-clause-stops g c = λ tells.
+returns-in-Err-look_at-clause-stops g c = λ seen it.
     let at = goal.at.returns-in-Err-look_at-clause-stops g c in
-    let taken = rw c.in-Some.is at (c.in-Ok.ensures.taken (still_tells c.lines.invariant.quiet tells)) in
+    let taken = rw c.in-Some.is at (c.in-Ok.ensures.taken seen (still_seen c.lines.invariant.quiet it)) in
     record {
       why = rw c.in-Err-look_at.ensures.memory tt;
-      reported = seeks_in_part _ (change_lines (g.S.Shelf.left c.lines.shelf) c.lines.run) c.lines.begin _
-          (so_far_of c.lines.run) (c.lines.invariant.seeks tells) (so_far_of c.take_change.new.run)
+      reported = seeks_in_part _ (change_lines seen.left c.lines.run) c.lines.begin _
+          (so_far_of c.lines.run) (c.lines.invariant.seeks seen it) (so_far_of c.take_change.new.run)
           (so_far_of c.look_at.new.run) c.take_change.new.line.items c.in-Some.at.place taken.0 _ taken.1
           (took_faults c.in-Ok.ensures.takes.only) (took_names c.in-Ok.ensures.takes.only)
           (ap opened_file_names c.in-Err-look_at.ensures.only.names)
           (part g at.In-Err-look_at taken.0.line taken.0.is
-          (lines_at (g.S.Shelf.left c.take_change.new.shelf) c.take_change.new.run.change));
+          (lines_at seen.left c.take_change.new.run.change));
     }
 
 pub lines-preserved : goal.lines-preserved
@@ -68,14 +76,14 @@ lines-preserved g c = record {
   quiet = looked g (goal.at.lines-preserved g c).In-Ok-look_at;
   frame = search rules;
   begun = rw (sym c.in-Ok-look_at.ensures.only.names, c.in-On.is) at c.in-Ok-look_at.ensures.known;
-  seeks = λ tells.
-      let taken = rw c.in-Some.is at (c.in-Ok.ensures.taken (still_tells c.lines.invariant.quiet tells)) in
-      subst (λ ch. SeeksTo (sought (change_lines (g.S.Shelf.left c.args.shelf.now) c.args.run.now) None)
-      (sought (lines_at (g.S.Shelf.left c.take_change.new.shelf) ch) c.in-On.next)
+  seeks = λ seen it.
+      let taken = rw c.in-Some.is at (c.in-Ok.ensures.taken seen (still_seen c.lines.invariant.quiet it)) in
+      subst (λ ch. SeeksTo (sought (change_lines seen.left c.args.run.now) None)
+      (sought (lines_at seen.left ch) c.in-On.next)
       (so_far_of c.args.run.now) (so_far_of c.look_at.new.run)) (sym c.in-Ok-look_at.ensures.only.change)
-      (seeks_on (sought (change_lines (g.S.Shelf.left c.args.shelf.now) c.args.run.now) None)
-      (change_lines (g.S.Shelf.left c.lines.shelf) c.lines.run) c.lines.begin (so_far_of c.args.run.now)
-      (so_far_of c.lines.run) (c.lines.invariant.seeks tells) (so_far_of c.take_change.new.run)
+      (seeks_on (sought (change_lines seen.left c.args.run.now) None)
+      (change_lines seen.left c.lines.run) c.lines.begin (so_far_of c.args.run.now)
+      (so_far_of c.lines.run) (c.lines.invariant.seeks seen it) (so_far_of c.take_change.new.run)
       (so_far_of c.look_at.new.run)
       c.take_change.new.line.items c.in-Some.at.place taken.0 _ taken.1 (ap (λ (v : Vec SourceFault Global).
       v.items) c.in-Ok.ensures.takes.only.faults) (took_names c.in-Ok.ensures.takes.only)
@@ -85,29 +93,29 @@ lines-preserved g c = record {
 }
 
 pub returns-in-Entry-clause-searched : goal.returns-in-Entry-clause-searched
-returns-in-Entry-clause-searched g c = λ tells.
-    let taken = rw c.in-Some.is at (c.in-Ok.ensures.taken (still_tells c.lines.invariant.quiet tells)) in
-    let found = seeks_found (sought (change_lines (g.S.Shelf.left c.args.shelf.now) c.args.run.now) None)
-    (change_lines (g.S.Shelf.left c.lines.shelf) c.lines.run) c.lines.begin
-    (so_far_of c.args.run.now) (so_far_of c.lines.run) (c.lines.invariant.seeks tells) (so_far_of c.take_change.new.run)
+returns-in-Entry-clause-searched g c = λ seen it.
+    let taken = rw c.in-Some.is at (c.in-Ok.ensures.taken seen (still_seen c.lines.invariant.quiet it)) in
+    let found = seeks_found (sought (change_lines seen.left c.args.run.now) None)
+    (change_lines seen.left c.lines.run) c.lines.begin
+    (so_far_of c.args.run.now) (so_far_of c.lines.run) (c.lines.invariant.seeks seen it) (so_far_of c.take_change.new.run)
     (so_far_of c.look_at.new.run) c.take_change.new.line.items c.in-Some.at.place taken.0 _ taken.1
     (took_faults c.in-Ok.ensures.takes.only) (took_names c.in-Ok.ensures.takes.only)
     (ap opened_file_names c.in-Ok-look_at.ensures.only.names)
     (ap counters_of c.in-Ok-look_at.ensures.only.limits) c.in-Entry.place
     (rw (c.deref.ensures.value, c.in-Entry.is) at c.in-Ok-look_at.ensures.looks) in
-    subst (λ ch. Searched (sought (change_lines (g.S.Shelf.left c.args.shelf.now) c.args.run.now) None)
+    subst (λ ch. Searched (sought (change_lines seen.left c.args.run.now) None)
     (so_far_of c.args.run.now) (so_far_of c.look_at.new.run) (Waiting c.in-Entry.place) c.swap.new.x.items
-    (lines_at (g.S.Shelf.left c.take_change.new.shelf) ch)) (sym c.in-Ok-look_at.ensures.only.change)
-    (subst (λ (v : Vec ℕ Global). Searched (sought (change_lines (g.S.Shelf.left c.args.shelf.now) c.args.run.now) None)
+    (lines_at seen.left ch)) (sym c.in-Ok-look_at.ensures.only.change)
+    (subst (λ (v : Vec ℕ Global). Searched (sought (change_lines seen.left c.args.run.now) None)
     (so_far_of c.args.run.now) (so_far_of c.look_at.new.run) (Waiting c.in-Entry.place) v.items (lines_at
-    (g.S.Shelf.left c.take_change.new.shelf) c.take_change.new.run.change)) (sym c.swap.ensures.x_after) found)
+    seen.left c.take_change.new.run.change)) (sym c.swap.ensures.x_after) found)
 
 pub returns-in_default-clause-searched : goal.returns-in_default-clause-searched
-returns-in_default-clause-searched g c = λ tells.
-    let taken = rw c.in_default.is at (c.in-Ok.ensures.taken (still_tells c.lines.invariant.quiet tells)) in
+returns-in_default-clause-searched g c = λ seen it.
+    let taken = rw c.in_default.is at (c.in-Ok.ensures.taken seen (still_seen c.lines.invariant.quiet it)) in
     let counted = rw c.in_default.is at c.in-Ok.ensures.takes.answers.counted in
     OnOk-both c.end.result (λ reported done.
-    seeks_ended _ _ c.lines.begin _ (so_far_of c.lines.run) (c.lines.invariant.seeks tells) taken.0 _ (reported ∙ ap
+    seeks_ended _ _ c.lines.begin _ (so_far_of c.lines.run) (c.lines.invariant.seeks seen it) taken.0 _ (reported ∙ ap
     (λ (v : Vec SourceFault Global). v.items ++ reported_faults (sought [] c.lines.begin).events)
     c.in-Ok.ensures.takes.only.faults)
     (ap opened_file_names (c.end.ensures.names ∙ c.in-Ok.ensures.takes.only.names)) (ap counters_of c.end.ensures.limits
@@ -115,7 +123,11 @@ returns-in_default-clause-searched g c = λ tells.
 
 pub returns-in_default-clause-reads : goal.returns-in_default-clause-reads
 returns-in_default-clause-reads g c = reads_then (quiet g (goal.at.returns-in_default-clause-reads g c).In-Ok)
-    (reads_none (reads_nothing _) (λ tells known. knows_same _ c.take_change.new.run c.end.new.run (ap (λ s. s.texts)
+    (reads_none refl (λ seen it known. knows_same _ c.take_change.new.run c.end.new.run (ap (λ s. s.texts)
     c.end.ensures.stack) c.end.ensures.change (ap opened_file_names c.end.ensures.names) known) (reported_if
     c.end.result _ _ (reported_faults (sought [] c.lines.begin).events) c.end.ensures.reported c.end.ensures.err (ap
     opened_file_names c.end.ensures.names)) (outcome_memory c.end.result c.end.ensures.memory))
+
+pub returns-in-Entry-clause-reads : goal.returns-in-Entry-clause-reads
+returns-in-Entry-clause-reads g c = reads_set _ refl refl refl
+    (looked g (goal.at.returns-in-Entry-clause-reads g c).In-Ok-look_at)

@@ -1,4 +1,4 @@
-use Rattle.cweb_lines.proofs.Common.{rules, ◌≡◌, ◌+◌, ◌∷◌, ◌++◌, ℕ, List, Some, subst, length, length-append, string_bytes, ap, sym, ◌∙◌, arith, get_or, [], found_as, names_found, IsTrue, opened_file_names, IsReaderNamed}
+use Rattle.cweb_lines.proofs.Common.{rules, ◌≡◌, ◌+◌, ◌∷◌, ◌++◌, ℕ, List, Some, length, length-append, string_bytes, ap, sym, ◌∙◌, arith, get_or, [], found_as, names_found, opened_file_names, IsReaderNamed}
 use Rattle.cweb_lines.specs.inner.Faults.{files_of_faults}
 use Rattle.cweb_lines.proofs.MergeStateEvents.{begins_low}
 use Rattle.cweb_lines.proofs.merger.Merger.start.Goals as goal
@@ -8,7 +8,7 @@ unfolding files_of_faults
 invariant_of-result g c =
     let one : length (opened_file_names c.open_web.new.names) ≡ 1 = ap
     (λ (ns : List (List ℕ)). length ns) c.in-Ok.ensures.names in
-    let left = g.S.Shelf.left c.find_change.new.shelf in
+    let left : g.row.S-R.Denot → List ℕ = λ reader. [] in
     let found = names_found (found_as left c.in-Some-2.change) in
     let all : length (opened_file_names c.open_change.new.names) ≡ 1 + length found =
     ap (λ (ns : List (List ℕ)). length ns) (c.in-Ok-open_change.ensures.names left)
@@ -30,17 +30,16 @@ invariant_of-result g c =
     }
 
 pub returns-clause-begins : goal.returns-clause-begins
-returns-clause-begins g c = λ tells.
-    let later = subst IsTrue (sym c.in_ok-web.ensures.reads.keeps.tells) tells in
-    let left = g.S.Shelf.left c.find_change.new.shelf in
-    let change = found_as left c.in-Some-2.change in
+returns-clause-begins g c = λ seen it.
+    let change = found_as seen.left c.in-Some-2.change in
     let names : opened_file_names c.open_change.new.names ≡ string_bytes c.in-Some.web.name ∷ names_found change =
-    c.in-Ok-open_change.ensures.names left ∙ ap (λ (ns : List (List ℕ)). ns ++ names_found change)
+    c.in-Ok-open_change.ensures.names seen.left ∙ ap (λ (ns : List (List ℕ)). ns ++ names_found change)
     c.in-Ok.ensures.names in
-    let texts = c.in_ok-change.ensures.reads.keeps.texts later ∙ c.in_ok-web.ensures.reads.keeps.texts tells in
+    let web = c.in_ok-web.ensures.found seen it in
+    let changed = c.in_ok-change.ensures.found seen (ap (λ m. m.contents) c.in_ok-web.ensures.same ∙ it) in
     record {
       name = string_bytes c.in-Some.web.name;
-      text = left c.in-Some.web.reader;
+      text = seen.left c.in-Some.web.reader;
       change = change;
       there = search rules;
       changes_there = search rules;
@@ -49,18 +48,15 @@ returns-clause-begins g c = λ tells.
     }
 
 pub returns-clause-readers : goal.returns-clause-readers
-returns-clause-readers g c = λ tells.
-    let later = subst IsTrue (sym c.in_ok-web.ensures.reads.keeps.tells) tells in
-    let opened_as = g.S.Shelf.opened_as c.find_change.new.shelf in
-    let left = g.S.Shelf.left c.find_change.new.shelf in
-    let found = names_found (found_as left c.in-Some-2.change) in
+returns-clause-readers g c = λ seen it.
+    let found = names_found (found_as seen.left c.in-Some-2.change) in
     let names : opened_file_names c.open_change.new.names ≡ string_bytes c.in-Some.web.name ∷ found =
-    c.in-Ok-open_change.ensures.names left ∙ ap (λ (ns : List (List ℕ)). ns ++ found) c.in-Ok.ensures.names in
-    let reader = ap opened_as c.in-Ok.ensures.reader ∙ ap (λ f. f c.in-Some.web.reader)
-    (c.in_ok-change.ensures.reads.keeps.names later) ∙ rw c.in-Some.is at (c.in_ok-web.ensures.opened tells) in
-    let top : IsReaderNamed opened_as (opened_file_names c.open_change.new.names) (Some c.in-Ok.web) =
+    c.in-Ok-open_change.ensures.names seen.left ∙ ap (λ (ns : List (List ℕ)). ns ++ found) c.in-Ok.ensures.names in
+    let reader = ap seen.opened_as c.in-Ok.ensures.reader ∙ rw c.in-Some.is at (c.in_ok-web.ensures.opened seen it) in
+    let top : IsReaderNamed seen.opened_as (opened_file_names c.open_change.new.names) (Some c.in-Ok.web) =
     reader ∙ sym ((λ i. get_or (names i) (c.in-Ok.ensures.level.0 i) [])) in
     record {
       texts = search rules;
-      change = c.in-Ok-open_change.ensures.named opened_as (rw c.in-Some-2.is at (c.in_ok-change.ensures.opened later));
+      change = c.in-Ok-open_change.ensures.named seen.opened_as (rw c.in-Some-2.is at
+          (c.in_ok-change.ensures.opened seen (ap (λ m. m.contents) c.in_ok-web.ensures.same ∙ it)));
     }

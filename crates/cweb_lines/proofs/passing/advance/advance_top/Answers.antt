@@ -27,7 +27,7 @@ returns-clause-passes g c = λ entry lines in_place.
     PassesSlot slot c.advance_slot.new.slot c.args.limits.now c.advance_slot.new.limits lines) (sym same) passes in
     let kept = subst (λ slot. KeepsLevel slot c.advance_slot.new.slot) (sym same) level in
     record {
-      takes = λ left low above rest. top_passed left left refl texts None c.advance_slot.new.slot
+      takes = λ left low above rest. top_passed left texts None c.advance_slot.new.slot
           c.args.stack.now.depth within (counters_of c.args.limits.now) (counters_of c.args.limits.now)
           [] low above rest
           (sources_next (top_of c.args.stack.now) lines) kept.depth kept.may_match (takes.takes left);

@@ -3,7 +3,7 @@ use Rattle.cweb_lines.proofs.ReportsOnlyGrow.{took_faults, took_names}
 use Rattle.cweb_input.proofs.Found.{IfOk-map}
 use Rattle.cweb_lines.proofs.EmittedLinesAddUp.{yields_took}
 use Rattle.cweb_lines.proofs.NewSideLines.{coming_is, new_ended, new_faulty, new_first, new_side_ended, new_stops}
-use Rattle.cweb_lines.proofs.NoReadFails.{still_tells}
+use Rattle.cweb_lines.proofs.NoReadFails.{still_seen}
 use Rattle.cweb_lines.proofs.Codes.{is_end}
 use Rattle.cweb_lines.proofs.Stops.{reported_stays, stops_unreported, unreported}
 use Rattle.cweb_lines.proofs.step.turning.take_new.Goals as goal
@@ -14,14 +14,14 @@ returns-in-Err g c =
     record {
       reads = took.reads;
       turns = search rules;
-      yields = λ tells. tt;
-      stops = λ tells. record {
+      yields = λ seen it. tt;
+      stops = λ seen it. record {
         why = subst (λ es. Stopped c.in-Err.stop (so_far_of c.args.run.now) (so_far_of c.take_change.new.run) es)
-            (sym (coming_is (g.S.Shelf.texts c.args.shelf.now) (g.S.Shelf.left c.args.shelf.now) c.args.run.now
+            (sym (coming_is seen.texts seen.left c.args.run.now
             c.args.change c.requires.changing c.requires.below))
-            (new_stops _ c.args.change _ _ c.in-Err.stop (change_lines (g.S.Shelf.left c.args.shelf.now)
+            (new_stops _ c.args.change _ _ c.in-Err.stop (change_lines seen.left
             c.args.run.now) _ _ (reported_stays c.args.run.now _ took.only took.answers.counted)
-            (c.in-Err.ensures.stops tells));
+            (c.in-Err.ensures.stops seen it));
         reported = unreported _ _ _ (took_faults took.only) (took_names took.only);
       };
     }
@@ -33,14 +33,13 @@ returns-in_default g c =
     record {
       reads = search rules;
       turns = search rules;
-      yields = λ tells.
-          let taken = rw c.in_default.is at (c.in-Ok.ensures.taken tells) in
+      yields = λ seen it.
+          let taken = rw c.in_default.is at (c.in-Ok.ensures.taken seen it) in
           let counted = rw c.in_default.is at took.answers.counted in
-          new_ended c.requires.changing c.requires.below (took.reads.keeps.texts tells) (took.reads.keeps.left tells)
-          took.only c.in-Ok.ensures.stack c.report.new.self report.only taken.0
+          new_ended seen.texts seen.left c.requires.changing c.requires.below took.only c.in-Ok.ensures.stack c.report.new.self report.only taken.0
           (ap counters_of report.only.limits ∙ (λ i. record { lines = counted.0 i; bytes = counted.1 i }))
           report.reported;
-      stops = λ tells. tt;
+      stops = λ seen it. tt;
     }
 
 pub returns-in-None : goal.returns-in-None
@@ -50,16 +49,15 @@ returns-in-None g c =
     record {
       reads = search rules;
       turns = search rules;
-      yields = λ tells.
-          let taken = rw c.in-Some.is at (c.in-Ok.ensures.taken tells) in
+      yields = λ seen it.
+          let taken = rw c.in-Some.is at (c.in-Ok.ensures.taken seen it) in
           let test = ap change_code (sym c.deref.ensures.value) ∙ sym c.change_code.ensures ∙ c.in-None.is in
           IfOk-map c.emit_or_obey.result (λ turn yields. yields_took _ (so_far_of c.args.run.now) _ _
           c.take_change.new.line.items c.in-Some.at.place taken.0 _ _ _ (took_faults took.only) (took_names took.only)
-          (new_first c.requires.changing c.requires.below (took.reads.keeps.texts tells) (took.reads.keeps.left tells)
-          took.only c.in-Ok.ensures.stack c.take_change.new.line.items c.in-Some.at.place taken.0 taken.1 test)
+          (new_first seen.texts seen.left c.requires.changing c.requires.below took.only c.in-Ok.ensures.stack c.take_change.new.line.items c.in-Some.at.place taken.0 taken.1 test)
           (yields taken.0.line taken.0.is))
-          (rw c.deref-in-None.ensures.value at (obeys.yields (still_tells took.reads tells)));
-      stops = λ tells. stops_unreported c.emit_or_obey.result _ (so_far_of c.take_change.new.run) _ _
+          (rw c.deref-in-None.ensures.value at (obeys.yields seen (still_seen took.reads it)));
+      stops = λ seen it. stops_unreported c.emit_or_obey.result _ (so_far_of c.take_change.new.run) _ _
           (took_faults took.only) (took_names took.only) obeys.only.memory obeys.only.same;
     }
 
@@ -69,14 +67,13 @@ returns-then-eq g c =
     record {
       reads = search rules;
       turns = search rules;
-      yields = λ tells.
-          let taken = rw c.in-Some.is at (c.in-Ok.ensures.taken tells) in
+      yields = λ seen it.
+          let taken = rw c.in-Some.is at (c.in-Ok.ensures.taken seen it) in
           let test = ap change_code (sym c.deref.ensures.value) ∙ sym c.change_code.ensures ∙ c.in-Some-change_code.is
           ∙ ap Some (is_end c.in-Some-change_code.code (sym c.eq.ensures ∙ c.if-eq.true)) in
-          new_side_ended c.requires.changing c.requires.below (took.reads.keeps.texts tells)
-          (took.reads.keeps.left tells) took.only c.in-Ok.ensures.stack c.take_change.new.line.items
+          new_side_ended seen.texts seen.left c.requires.changing c.requires.below took.only c.in-Ok.ensures.stack c.take_change.new.line.items
           c.in-Some.at.place taken.0 _ taken.1 test;
-      stops = λ tells. tt;
+      stops = λ seen it. tt;
     }
 
 pub returns-in_default-report-2 : goal.returns-in_default-report-2
@@ -86,13 +83,12 @@ returns-in_default-report-2 g c =
     record {
       reads = search rules;
       turns = search rules;
-      yields = λ tells.
-          let taken = rw c.in-Some.is at (c.in-Ok.ensures.taken tells) in
+      yields = λ seen it.
+          let taken = rw c.in-Some.is at (c.in-Ok.ensures.taken seen it) in
           let test = ap change_code (sym c.deref.ensures.value) ∙ sym c.change_code.ensures
           ∙ c.in-Some-change_code.is in
-          new_faulty c.requires.changing c.requires.below (took.reads.keeps.texts tells) (took.reads.keeps.left tells)
-          took.only c.in-Ok.ensures.stack c.take_change.new.line.items c.in-Some.at.place taken.0
+          new_faulty seen.texts seen.left c.requires.changing c.requires.below took.only c.in-Ok.ensures.stack c.take_change.new.line.items c.in-Some.at.place taken.0
           c.report-in-Some-change_code.new.self report.only taken.1 c.in-Some-change_code.code test
           (sym c.eq.ensures ∙ c.if-eq.false) report.reported;
-      stops = λ tells. tt;
+      stops = λ seen it. tt;
     }

@@ -1,4 +1,4 @@
-use Rattle.cweb_lines.proofs.Common.{rules, Some, ◌≡◌, sym, ◌∙◌, IsTrue, counters_of, change_lines, pending_of, things_of, so_far_of, CountsLine, events_to_come, events_after_line, begun_by, pending_in}
+use Rattle.cweb_lines.proofs.Common.{rules, Some, ◌≡◌, sym, ◌∙◌, counters_of, change_lines, pending_of, things_of, so_far_of, CountsLine, events_to_come, events_after_line, begun_by, pending_in}
 use Rattle.cweb_lines.proofs.ReportsOnlyGrow.{took_faults, took_names}
 use Rattle.cweb_input.proofs.Found.{IfOk-map}
 use Rattle.cweb_lines.proofs.Stops.{stopped_by, stops_unreported, reported_stays, things_first, unreported}
@@ -6,8 +6,8 @@ use Rattle.cweb_lines.proofs.EmittedLinesAddUp.{yields_took}
 use Rattle.cweb_lines.proofs.MergeStateEvents.{stops_in}
 use Rattle.cweb_input.proofs.SourceStacks.{stops_map}
 use Rattle.cweb_lines.proofs.Turns.{began_yields, began_stops, began_tells, raw_taken}
-use Rattle.cweb_files.proofs.FramesCompose.{keeps_known}
-use Rattle.cweb_lines.proofs.NoReadFails.{reads_obeyed, reads_then}
+use Rattle.cweb_files.specs.Shelves.{ShelfContents}
+use Rattle.cweb_lines.proofs.NoReadFails.{reads_obeyed, reads_then, still_seen}
 use Rattle.cweb_lines.proofs.step.turning.take_settled.Given as given
 use Rattle.cweb_lines.proofs.step.turning.take_settled.Goals as goal
 use Rattle.cweb_lines.proofs.step.turning.take_settled.Goals.{In-Some, In-Some-begun_at}
@@ -18,30 +18,30 @@ returns-in-Err g c =
     record {
       reads = took.reads;
       turns = search rules;
-      yields = λ tells. tt;
-      stops = λ tells. record {
+      yields = λ seen it. tt;
+      stops = λ seen it. record {
         why = stopped_by c.in-Err.stop (so_far_of c.args.run.now) (so_far_of c.take_raw.new.run) _
-            (things_of (g.S.Shelf.left c.args.shelf.now) c.args.run.now) (pending_of c.args.run.now) _ _
+            (things_of seen.left c.args.run.now) (pending_of c.args.run.now) _ _
             (reported_stays c.args.run.now _ took.only took.answers.counted)
-            (things_first (g.S.Shelf.left c.args.shelf.now) c.args.run.now.stage _ c.args.run.now.stack)
-            (stops_map c.in-Err.stop (stops_in (g.S.Shelf.left c.args.shelf.now) c.args.run.now.stage
-            (change_lines (g.S.Shelf.left c.args.shelf.now) c.args.run.now) c.args.run.now.stack c.in-Err.stop
-            (counters_of c.args.run.now.limits) c.requires.settled) (c.in-Err.ensures.stops tells));
+            (things_first seen.left c.args.run.now.stage _ c.args.run.now.stack)
+            (stops_map c.in-Err.stop (stops_in seen.left c.args.run.now.stage
+            (change_lines seen.left c.args.run.now) c.args.run.now.stack c.in-Err.stop
+            (counters_of c.args.run.now.limits) c.requires.settled) (c.in-Err.ensures.stops seen it));
         reported = unreported _ _ _ (took_faults took.only) (took_names took.only);
       };
     }
 
-taken : (g : given.Over) (c : In-Some g) → IsTrue (g.S.Shelf.tells c.args.shelf.now) → (t : CountsLine
+taken : (g : given.Over) (c : In-Some g) (seen : ShelfContents g.row.S-R.Denot)
+    → (g.S.Shelf.model c.args.shelf.now).contents ≡ Some seen → (t : CountsLine
     c.take_raw.new.line.items c.in-Some.at.place (counters_of c.args.run.now.limits)
     (counters_of c.take_raw.new.run.limits))
-    × (events_to_come (g.S.Shelf.texts c.args.shelf.now) (g.S.Shelf.left c.args.shelf.now) c.args.run.now
-    ≡ events_after_line
-    (g.S.Shelf.texts c.take_raw.new.shelf) (g.S.Shelf.left c.take_raw.new.shelf) c.take_raw.new.run c.in-Some.at t.line)
-taken g c tells =
+    × (events_to_come seen.texts seen.left c.args.run.now
+    ≡ events_after_line seen.texts seen.left c.take_raw.new.run c.in-Some.at t.line)
+taken g c seen it =
     let took = c.in-Ok.ensures.takes in
-    raw_taken _ _ _ _ c.args.run.now c.take_raw.new.run c.in-Some.at c.take_raw.new.line.items
-    (took.reads.keeps.texts tells) (took.reads.keeps.left tells) c.requires.settled (rw c.in-Some.is at
-    (c.in-Ok.ensures.taken tells)) c.in-Ok.ensures.closes.below took.only c.in-Ok.ensures.change
+    raw_taken seen.texts seen.left c.args.run.now c.take_raw.new.run c.in-Some.at c.take_raw.new.line.items
+    c.requires.settled (rw c.in-Some.is at (c.in-Ok.ensures.taken seen it)) c.in-Ok.ensures.closes.below took.only
+    c.in-Ok.ensures.change
 
 begun : (g : given.Over) (c : In-Some-begun_at g) → begun_by (pending_of c.take_raw.new.run) c.in-Some.at.may_match
     c.take_raw.new.line.items ≡ Some c.in-Some-begun_at.begin
@@ -55,14 +55,14 @@ returns-in_default-begun_at g c =
     record {
       reads = reads_then took.reads (reads_obeyed obeys);
       turns = search rules;
-      yields = λ tells.
-          let t = taken g (goal.at.returns-in_default-begun_at g c).In-Some tells in
+      yields = λ seen it.
+          let t = taken g (goal.at.returns-in_default-begun_at g c).In-Some seen it in
           IfOk-map c.emit_or_obey.result
           (λ turn yields. yields_took _ (so_far_of c.args.run.now) _ _ c.take_raw.new.line.items
           c.in-Some.at.place t.0 _ _ _ (took_faults took.only) (took_names took.only) t.1 (yields t.0.line t.0.is))
           (rw c.deref-in_default-begun_at.ensures.value at
-          (obeys.yields (keeps_known g.S.Shelf _ _ took.reads.keeps tells)));
-      stops = λ tells. stops_unreported c.emit_or_obey.result _ (so_far_of c.take_raw.new.run) _ _
+          (obeys.yields seen (still_seen took.reads it)));
+      stops = λ seen it. stops_unreported c.emit_or_obey.result _ (so_far_of c.take_raw.new.run) _ _
           (took_faults took.only) (took_names took.only) obeys.only.memory obeys.only.same;
     }
 
@@ -70,22 +70,20 @@ pub returns-in-Err-begin_change : goal.returns-in-Err-begin_change
 returns-in-Err-begin_change g c =
     let at = goal.at.returns-in-Err-begin_change g c in
     let took = c.in-Ok.ensures.takes in
-    let still = keeps_known g.S.Shelf _ _ took.reads.keeps in
     record {
       reads = reads_then took.reads c.in-Err-begin_change.ensures.reads;
       turns = search rules;
-      yields = λ tells. tt;
-      stops = λ tells.
-          let t = taken g at.In-Some tells in
+      yields = λ seen it. tt;
+      stops = λ seen it.
+          let t = taken g at.In-Some seen it in
           record {
-            why = began_stops (g.S.Shelf.texts c.take_raw.new.shelf) (g.S.Shelf.left c.take_raw.new.shelf)
+            why = began_stops seen.texts seen.left
                 c.take_raw.new.run c.args.run.now c.in-Some.at c.take_raw.new.line.items c.in-Some-begun_at.begin _
                 took.only t.0 t.1 (begun g at.In-Some-begun_at) c.in-Err-begin_change.stop _
-                (c.in-Err-begin_change.ensures.stops (still tells));
-            reported = began_tells (g.S.Shelf.texts c.take_raw.new.shelf) (g.S.Shelf.left c.take_raw.new.shelf)
+                (c.in-Err-begin_change.ensures.stops seen (still_seen took.reads it));
+            reported = began_tells seen.texts seen.left
                 c.take_raw.new.run c.args.run.now c.in-Some.at c.take_raw.new.line.items c.in-Some-begun_at.begin _
-                took.only t.0 t.1 (begun g at.In-Some-begun_at) _ (c.in-Err-begin_change.ensures.reported (still
-                tells));
+                took.only t.0 t.1 (begun g at.In-Some-begun_at) _ (c.in-Err-begin_change.ensures.reported seen (still_seen took.reads it));
           };
     }
 
@@ -93,16 +91,33 @@ pub returns : goal.returns
 returns g c =
     let at = goal.at.returns g c in
     let took = c.in-Ok.ensures.takes in
-    let still = keeps_known g.S.Shelf _ _ took.reads.keeps in
     let change = c.in_default-begin_change.ensures in
     record {
       reads = reads_then took.reads change.reads;
       turns = search rules;
-      yields = λ tells.
-          let t = taken g at.In-Some tells in
-          began_yields (g.S.Shelf.texts c.take_raw.new.shelf) (g.S.Shelf.left c.take_raw.new.shelf) c.take_raw.new.run
+      yields = λ seen it.
+          let t = taken g at.In-Some seen it in
+          began_yields seen.texts seen.left c.take_raw.new.run
           c.args.run.now c.in-Some.at c.take_raw.new.line.items c.in-Some-begun_at.begin _ took.only t.0 t.1
-          (begun g at.In-Some-begun_at) _ _ c.begin_change.new.run (change.reads.keeps.texts (still tells))
-          change.goes.inputs change.goes.names (change.changed (still tells));
-      stops = λ tells. tt;
+          (begun g at.In-Some-begun_at) c.begin_change.new.run change.goes.inputs change.goes.names (change.changed seen (still_seen took.reads it));
+      stops = λ seen it. tt;
+    }
+
+pub returns-in_default : goal.returns-in_default
+returns-in_default g c =
+    let took = c.in-Ok.ensures.takes in
+    let last = c.take_end.ensures in
+    record {
+      reads = reads_then took.reads last.reads;
+      turns = search rules;
+      yields = λ seen it.
+          let taken = rw c.in_default.is at (c.in-Ok.ensures.taken seen it) in
+          let counted = rw c.in_default.is at took.answers.counted in
+          let yields = last.yields seen (still_seen took.reads it) in
+          search rules;
+      stops = λ seen it.
+          let taken = rw c.in_default.is at (c.in-Ok.ensures.taken seen it) in
+          let counted = rw c.in_default.is at took.answers.counted in
+          let stops = last.stops seen (still_seen took.reads it) in
+          search rules;
     }
