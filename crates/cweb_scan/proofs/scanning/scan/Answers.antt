@@ -28,9 +28,9 @@ returns-clause-stops g c = λ seen it before.
 pub returns-clause-reads : goal.returns-clause-reads
 returns-clause-reads g c = λ before.
     let taken = c.in_default-take_lines.ensures in
-    (λ file. [], unread (Err c.halt.result) _ taken.reads.1 (c.halt.ensures.stop taken.ended.0))
+    (λ file. [], unread {A = Unit {0}} (Err c.halt.result) _ taken.reads.1 (c.halt.ensures.stop taken.ended.0))
 
 pub returns-clause-blamed : goal.returns-clause-blamed
 returns-clause-blamed g c = λ seen it known before.
     let taken = c.in_default-take_lines.ensures in
-    unread (Err c.halt.result) _ taken.reads.1 (c.halt.ensures.stop taken.ended.0)
+    unread {A = Unit {0}} (Err c.halt.result) _ taken.reads.1 (c.halt.ensures.stop taken.ended.0)

@@ -11,7 +11,7 @@ use Rattle.cweb_scan.proofs.scanning.take_lines.Goals as goal
 -- The contents are the same after lines were taken.
 still : {R : Type 0} {was now : ShelfModel R} {seen : ShelfContents R} → now ≡ was → was.contents ≡ Some seen
     → now.contents ≡ Some seen
-still same it = ap (λ (s : ShelfModel R). s.contents) same ∙ it
+still {R = R} same it = ap (λ (s : ShelfModel R). s.contents) same ∙ it
 
 pub lines-init : goal.lines-init
 lines-init g c = record {
@@ -52,7 +52,7 @@ returns-in-Err-take_borrowed-clause-stops g c = λ seen it.
 pub returns-in-Err-take_borrowed-clause-blamed : goal.returns-in-Err-take_borrowed-clause-blamed
 returns-in-Err-take_borrowed-clause-blamed g c = λ seen it known.
     let inv = c.lines.invariant in
-    unread (Err c.halt-in-Err-take_borrowed.result) _ ((c.in-Ok.ensures.blames inv.running).reads.1 ∙ inv.same)
+    unread {A = Unit {0}} (Err c.halt-in-Err-take_borrowed.result) _ ((c.in-Ok.ensures.blames inv.running).reads.1 ∙ inv.same)
     (c.halt-in-Err-take_borrowed.ensures.stop
     (c.in-Err-take_borrowed.ensures.borrowed.stopped ∙ c.in-Ok.ensures.leaves.running))
 
@@ -74,7 +74,7 @@ pub returns-in-Err-take_line-clause-reads : goal.returns-in-Err-take_line-clause
 returns-in-Err-take_line-clause-reads g c =
     let inv = c.lines.invariant in (
       λ file. [],
-      unread (Err c.halt.result) _ ((c.in-Ok.ensures.blames inv.running).reads.1 ∙ inv.same)
+      unread {A = Unit {0}} (Err c.halt.result) _ ((c.in-Ok.ensures.blames inv.running).reads.1 ∙ inv.same)
           (c.halt.ensures.stop c.in-Ok.ensures.leaves.running),
     )
 
@@ -82,7 +82,7 @@ pub returns-in-Err-take_borrowed-clause-reads : goal.returns-in-Err-take_borrowe
 returns-in-Err-take_borrowed-clause-reads g c =
     let inv = c.lines.invariant in (
       λ file. [],
-      unread (Err c.halt-in-Err-take_borrowed.result) _ ((c.in-Ok.ensures.blames inv.running).reads.1 ∙ inv.same)
+      unread {A = Unit {0}} (Err c.halt-in-Err-take_borrowed.result) _ ((c.in-Ok.ensures.blames inv.running).reads.1 ∙ inv.same)
           (c.halt-in-Err-take_borrowed.ensures.stop
           (c.in-Err-take_borrowed.ensures.borrowed.stopped ∙ c.in-Ok.ensures.leaves.running)),
     )
@@ -157,7 +157,7 @@ returns-in-Err-clause-blamed g c = λ seen it known.
 pub returns-in-Err-take_line-clause-blamed : goal.returns-in-Err-take_line-clause-blamed
 returns-in-Err-take_line-clause-blamed g c = λ seen it known.
     let inv = c.lines.invariant in
-    unread (Err c.halt.result) _ ((c.in-Ok.ensures.blames inv.running).reads.1 ∙ inv.same)
+    unread {A = Unit {0}} (Err c.halt.result) _ ((c.in-Ok.ensures.blames inv.running).reads.1 ∙ inv.same)
     (c.halt.ensures.stop c.in-Ok.ensures.leaves.running)
 
 -- At least one line was taken.
