@@ -107,19 +107,11 @@ fn recorded(alloc: Global, read: Option<FileSet>) -> FileSet
 }
 
 impl<F: FileSystem + Drop> Shelf for FolderShelf<F> {
-    ghost use Rattle.cweb_system.specs.inner.ShelfState.{shelf_contents, shelf_failures, shelf_left, shelf_system};
+    ghost use Rattle.cweb_system.specs.inner.ShelfState.{shelf_model};
 
     type R = F::File;
 
-    ghost tells = { λ s. (F.disk (shelf_system s)).tells };
-
-    ghost texts = { shelf_contents F.FileSystem };
-
-    ghost left = { shelf_left F.FileSystem };
-
-    ghost failed = { shelf_failures };
-
-    ghost opened_as = { λ _. F.opened_as };
+    ghost model = { shelf_model F.FileSystem };
 
     /// Any error but a failed allocation means that the file is not there.
     fn fetch(&mut self, name: &str) -> Result<Option<F::File>, AllocError> {

@@ -1,5 +1,7 @@
 -- A shelf over a file system.
-use Rattle.std.specs.Prelude.{ℕ, List, Option, option_map}
+use Rattle.std.specs.Prelude.{ℕ, List, [], Option, option_map}
+use Rattle.cweb_files.specs.Shelves.{ShelfContents, ShelfModel}
+use Rattle.cweb_files.specs.Sinks.{known}
 use Rattle.cweb_system.specs.declared.file_system.FileSystem.{Ghosts as FileSystem}
 use Rattle.cweb_system.specs.declared.node.FileKey.{FileKey}
 use Rattle.cweb_system.specs.declared.shelf.FolderShelf.{FolderShelf}
@@ -17,8 +19,17 @@ shelf_failures shelf = shelf.failed
 abbrev pub shelf_read : {F H : Type 0} {system : FileSystem F H} → FolderShelf F H system → Option (List FileKey)
 shelf_read shelf = option_map keys_in shelf.read
 
-abbrev pub shelf_contents : {F H : Type 0} (system : FileSystem F H) → FolderShelf F H system → List ℕ → Option (List ℕ)
-shelf_contents system shelf = contents_in (system.disk shelf.fs).tree
+-- What can be read. No read fails.
+abbrev pub shelf_contents : {F H : Type 0} (system : FileSystem F H) → FolderShelf F H system → ShelfContents H
+shelf_contents system shelf = let tree = (system.disk shelf.fs).tree in record {
+  texts = contents_in tree;
+  left = λ reader. rest tree (system.key reader) (system.position reader);
+  opened_as = system.opened_as;
+  blamed = [];
+}
 
-abbrev pub shelf_left : {F H : Type 0} (system : FileSystem F H) → FolderShelf F H system → H → List ℕ
-shelf_left system shelf reader = rest (system.disk shelf.fs).tree (system.key reader) (system.position reader)
+abbrev pub shelf_model : {F H : Type 0} (system : FileSystem F H) → FolderShelf F H system → ShelfModel H
+shelf_model system shelf = record {
+  failed = shelf.failed;
+  contents = known (system.disk shelf.fs).tells (shelf_contents system shelf);
+}
