@@ -1,25 +1,32 @@
 -- What is known of the devices of a run. The contents of a device are known if it is observable, which never changes.
-use Rattle.std.specs.Prelude.{◌≡◌, ℕ, ◌+◌, ◌^◌, ◌<◌, List, Option}
-use Rattle.cweb_files.specs.Sinks.{FailsWithin, SinkModel, known, written}
+use Rattle.std.specs.Prelude.{◌≡◌, ℕ, ◌+◌, ◌^◌, ◌<◌, List, [], Option, None, option_map, unwrap_or}
+use Rattle.cweb_files.specs.Shelves.{ShelfContents, ShelfModel}
+use Rattle.cweb_files.specs.Sinks.{FailsWithin, SinkModel, written}
 use Rattle.cweb_files.specs.declared.device.Shelf.{Ghosts as Shelf}
 use Rattle.cweb_files.specs.declared.device.Sink.{Ghosts as Sink}
 
--- A shelf: its failure count, and the names of the files whose reads failed.
-pub record ShelfModel : Type 0 where
+-- The failed reads of a shelf: their number, and the names of the files whose reads failed.
+pub record FailedReads : Type 0 where
   pub failed : ℕ
   pub blamed : Option (List (List ℕ))
 
 -- The devices of a run. `out` are the bins for `ctangle`, and standard output for `wmerge` and `wdep`.
 pub record Devices : Type 0 where
-  pub shelf : ShelfModel
+  pub shelf : FailedReads
   pub out : SinkModel
   pub log : SinkModel
 
-abbrev pub shelf_model : {S R : Type 0} → Shelf S R → S → ShelfModel
-shelf_model shelf s = record { failed = shelf.failed s; blamed = known (shelf.tells s) (shelf.blamed s) }
+abbrev pub failed_reads : {R : Type 0} → ShelfModel R → FailedReads
+failed_reads shelf =
+    record { failed = shelf.failed; blamed = option_map (λ now. now.blamed) shelf.contents }
+
+-- The contents of a shelf, or those of an empty shelf if they are not observable.
+abbrev pub contents_of : {R : Type 0} → ShelfModel R → ShelfContents R
+contents_of shelf = unwrap_or shelf.contents
+    (record { texts = λ name. None; left = λ reader. []; opened_as = λ reader. []; blamed = [] })
 
 abbrev pub devices : {S R W L : Type 0} → Shelf S R → Sink W → Sink L → S → W → L → Devices
-devices shelf out log s w l = record { shelf = shelf_model shelf s; out = out.model w; log = log.model l }
+devices shelf out log s w l = record { shelf = failed_reads (shelf.model s); out = out.model w; log = log.model l }
 
 -- The text was logged, or the log failed within it.
 pub data Logs (text : List ℕ) (old new : SinkModel) : Type 0 where

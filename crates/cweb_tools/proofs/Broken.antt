@@ -1,5 +1,5 @@
 -- The devices after a stop within an act.
-use Rattle.cweb_tools.proofs.Common.{◌≡◌, inl, inr, ℕ, ◌+◌, List, [], ◌∷◌, refl, sym, ◌∙◌, ap, subst, add-zero, arith, Option, Some, None, read_failures_of, bins_blame, Event, Stop, ReadFault, LineTooLong, TooMuchText, Memory, OutNotOpened, WriteFault, LogFault, Devices, SinkContents, SinkModel, ShelfModel, Act, says, reads, merges, writes, prints, FailsReading, FailsOutput, after_act, appended, blaming, changed, failing, without_file, with_printed, ending, Breaks, PerformsActs, draft_in, files_in}
+use Rattle.cweb_tools.proofs.Common.{◌≡◌, inl, inr, ℕ, ◌+◌, List, [], ◌∷◌, refl, sym, ◌∙◌, ap, subst, add-zero, arith, Option, Some, None, read_failures_of, bins_blame, Event, Stop, ReadFault, LineTooLong, TooMuchText, Memory, OutNotOpened, WriteFault, LogFault, Devices, SinkContents, SinkModel, FailedReads, Act, says, reads, merges, writes, prints, FailsReading, FailsOutput, after_act, appended, blaming, changed, failing, without_file, with_printed, ending, Breaks, PerformsActs, draft_in, files_in}
 use Rattle.std.specs.Prelude.{option_map}
 use Rattle.std.specs.Option.{option_and_then}
 
@@ -43,14 +43,14 @@ draft_stays text out none = same out.contents ∙ none
     same (Some now) = refl
 
 -- The shelf after a stop.
-abbrev pub shelf_after : Stop → List ℕ → ShelfModel → ShelfModel
+abbrev pub shelf_after : Stop → List ℕ → FailedReads → FailedReads
 shelf_after (ReadFault file) about shelf = blaming about shelf
 shelf_after stop about shelf = shelf
 
-pub shelf_counted : (stop : Stop) (about : List ℕ) (old : ShelfModel) {new : ShelfModel}
+pub shelf_counted : (stop : Stop) (about : List ℕ) (old : FailedReads) {new : FailedReads}
     → new ≡ shelf_after stop about old → new.failed ≡ old.failed + read_failures_of stop
-shelf_counted (ReadFault file) about old is = ap (λ (shelf : ShelfModel). shelf.failed) is
-shelf_counted stop about old is = ap (λ (shelf : ShelfModel). shelf.failed) is ∙ sym (add-zero old.failed)
+shelf_counted (ReadFault file) about old is = ap (λ (shelf : FailedReads). shelf.failed) is
+shelf_counted stop about old is = ap (λ (shelf : FailedReads). shelf.failed) is ∙ sym (add-zero old.failed)
 
 -- Acts that write and print change the output.
 abbrev pub IsOfOutput : Act → Type 0

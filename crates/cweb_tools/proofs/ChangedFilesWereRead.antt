@@ -1,5 +1,5 @@
 -- A run that changed the bins has read everything.
-use Rattle.cweb_tools.proofs.Common.{◌≡◌, ◌≢◌, ◌⊎◌, inl, inr, ℕ, ◌+◌, Bool, false, List, [], ◌∷◌, ◌++◌, ◌∙◌, ap, Some, Stop, ReadFault, LogItem, banner, fault_count, Shown, Devices, ShelfModel, SinkModel, Act, says, opens, reads, merges, writes, prints, after_act, ending, Breaks, PerformsActs, RunEnds, completes, stops, when, TangleCourse, unread, not_there, change_not_there, tangling, script, web_acts, planned_acts, closing_acts, Planning, refused, planned, Web, ActsKeepLimits, HasReadAll}
+use Rattle.cweb_tools.proofs.Common.{◌≡◌, ◌≢◌, ◌⊎◌, inl, inr, ℕ, ◌+◌, Bool, false, List, [], ◌∷◌, ◌++◌, ◌∙◌, ap, Some, Stop, ReadFault, LogItem, banner, fault_count, Shown, Devices, FailedReads, SinkModel, Act, says, opens, reads, merges, writes, prints, after_act, ending, Breaks, PerformsActs, RunEnds, completes, stops, when, TangleCourse, unread, not_there, change_not_there, tangling, script, web_acts, planned_acts, closing_acts, Planning, refused, planned, Web, ActsKeepLimits, HasReadAll}
 use Rattle.cweb_tools.proofs.Broken.{broken}
 use Rattle.cweb_tools.proofs.WebActs.{when_on, said_on, starred_on, outputs_on, closing_on}
 use Rattle.cweb_tools.proofs.Doing.{counts_all}
@@ -45,7 +45,7 @@ shelf_stays (reads names events) stop about old new none broke = absurd none
 shelf_stays (merges names events) stop about old new none broke = absurd none
 shelf_stays act (ReadFault file) about old new none broke = absurd broke
 shelf_stays act stop about old new none broke =
-    ap (λ (shelf : ShelfModel). shelf.failed) (broken act stop about old new broke).shelf
+    ap (λ (shelf : FailedReads). shelf.failed) (broken act stop about old new broke).shelf
 
 pub shelf_none : (acts : List Act) (stop : Stop) (about : List ℕ) (old new : Devices) → ReadsNone acts
     → PerformsActs acts (Some (ending stop about)) old new → new.shelf.failed ≡ old.shelf.failed

@@ -23,13 +23,12 @@ pub use Rattle.std.specs.Str.{bytes_eq}
 pub use Rattle.cweb_files.specs.Files.{File, no_device, no_memory}
 pub use Rattle.cweb_files.specs.Sinks.{FailsWithin, SinkContents, SinkModel, appended, changed}
 pub use Rattle.cweb_files.specs.surface.Writes.{WritesPrefix, Wrote}
-pub use Rattle.cweb_files.specs.Sinks.{committed, failing, known, with_draft, with_printed, without_draft, written}
+pub use Rattle.cweb_files.specs.Sinks.{committed, failing, with_draft, with_printed, without_draft, written}
 pub use Rattle.cweb_files.specs.declared.device.SinkFault.{SinkFault}
 pub use Rattle.cweb_files.specs.declared.place.FileId.{FileId}
 pub use Rattle.cweb_files.specs.declared.place.Place.{Place}
 pub use Rattle.cweb_input.specs.Include.{names_found, contents_found, World, Found, web_at, change_at}
 pub use Rattle.cweb_input.specs.Lines.{Line, SourceLine}
-pub use Rattle.cweb_input.specs.surface.ReaderNames.{blame}
 pub use Rattle.cweb_input.specs.surface.OpenSources.{read_failures_of, files_named}
 pub use Rattle.cweb_input.specs.declared.fault.SourceFault.{SourceFault}
 pub use Rattle.cweb_input.specs.declared.fault.SourceKind.TheVariants.{Unequal, NotThere}
@@ -53,7 +52,7 @@ pub use Rattle.cweb_lines.specs.surface.MergerCalls.{BeginsMerge, StopsAtStart, 
 pub use Rattle.cweb_lines.specs.surface.Total.{merge}
 pub use Rattle.cweb_lines.specs.surface.Writing.{StopsWriting, WritingStops}
 pub use Rattle.cweb_log.specs.CommandLine.{OptionsModel, options_by, shown_by_default, WebNames, web_names_by}
-pub use Rattle.cweb_log.specs.DeviceModels.{Devices, Logs, ShelfModel, devices, log_failed, logged, shelf_model}
+pub use Rattle.cweb_log.specs.DeviceModels.{Devices, FailedReads, Logs, contents_of, devices, failed_reads, log_failed, logged}
 pub use Rattle.cweb_log.specs.Items.{line, LogItem, is_fault, source_item, fault, starred}
 pub use Rattle.cweb_log.specs.Items.{located, banner, closing, faults, no_errors, no_text, see_warning, stopped}
 pub use Rattle.cweb_log.specs.Items.{name_item, name_items, scan_item, refusal_message}

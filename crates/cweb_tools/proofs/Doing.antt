@@ -1,5 +1,5 @@
 -- The effect of consecutive calls on the devices.
-use Rattle.cweb_tools.proofs.Common.{reads, ◌≡◌, inl, inr, ℕ, List, [], ◌∷◌, ◌++◌, refl, ap, Option, Some, None, IsErr, Result, Ok, Err, Ending, ending, LogFault, SinkModel, Devices, ShelfModel, Act, Breaks, PerformsActs, LogsStop, RunEnds, completes, stops, after_act, says, merges, Does, DoesInBoth, DoesInLog, log_ending}
+use Rattle.cweb_tools.proofs.Common.{reads, ◌≡◌, inl, inr, ℕ, List, [], ◌∷◌, ◌++◌, refl, ap, Option, Some, None, IsErr, Result, Ok, Err, Ending, ending, LogFault, SinkModel, Devices, FailedReads, Act, Breaks, PerformsActs, LogsStop, RunEnds, completes, stops, after_act, says, merges, Does, DoesInBoth, DoesInLog, log_ending}
 use Rattle.cweb_tools.proofs.Running.{runs_on, stops_in}
 
 pub does_none : {seen : Devices} → Does [] None seen seen
@@ -52,7 +52,7 @@ counts_all (act ∷ acts) old new (inr stop) = absurd stop
 counts_all (says item ∷ acts) old new (inl run) = counts_all acts (after_act (says item) old) new run.1
 counts_all (act ∷ acts) old new (inl run) = counts_all acts (after_act act old) new run.1
 
-abbrev pub no_shelf : ShelfModel
+abbrev pub no_shelf : FailedReads
 no_shelf = record { failed = 0; blamed = None }
 
 pub bins_counted : {acts : List Act} {a b : SinkModel} {k l : SinkModel} → DoesInBoth acts None a b k l

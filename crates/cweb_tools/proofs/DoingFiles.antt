@@ -1,5 +1,5 @@
 -- A file that is written, and the end of a run after calls.
-use Rattle.cweb_tools.proofs.Common.{◌≡◌, inl, inr, ℕ, Bool, List, [], ◌∷◌, ◌++◌, refl, ap, subst, Option, Some, None, Result, Ok, Err, Stop, WriteFault, LogFault, Memory, stop_line, Logs, SinkModel, changed, failing, with_file, without_file, writes, DoesInBoth, DoesInOut, Shown, Act, Breaks, Ending, ending, plans, reserves, Does, RunEnds, Devices, ShelfModel, at, EndsInLog, DoesInLog, log_ending, Numbers, closing_acts}
+use Rattle.cweb_tools.proofs.Common.{◌≡◌, inl, inr, ℕ, Bool, List, [], ◌∷◌, ◌++◌, refl, ap, subst, Option, Some, None, Result, Ok, Err, Stop, WriteFault, LogFault, Memory, stop_line, Logs, SinkModel, changed, failing, with_file, without_file, writes, DoesInBoth, DoesInOut, Shown, Act, Breaks, Ending, ending, plans, reserves, Does, RunEnds, Devices, FailedReads, at, EndsInLog, DoesInLog, log_ending, Numbers, closing_acts}
 use Rattle.cweb_tools.proofs.Doing.{ends_done, ends_halted, ends_in, no_shelf}
 use Rattle.cweb_tools.proofs.Broken.{log_until}
 
@@ -35,7 +35,7 @@ pub does_reserve : {seen : Devices} → Does (reserves ∷ []) None seen seen
 does_reserve = record { runs = inl (tt, refl) }
 
 -- An allocation failed within an act, and it was logged.
-pub memory_halts : (act : Act) (acts : List Act) {expected status : ℕ} {shelf : ShelfModel} {out : SinkModel}
+pub memory_halts : (act : Act) (acts : List Act) {expected status : ℕ} {shelf : FailedReads} {out : SinkModel}
     {old new : SinkModel} → Breaks act (ending Memory []) (at shelf out old) (at shelf out old)
     → Logs (stop_line Memory []) old new
     → status ≡ 1 → RunEnds (act ∷ acts) expected (at shelf out old) (at shelf out new) status

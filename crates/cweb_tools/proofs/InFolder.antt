@@ -1,5 +1,5 @@
 -- What a run in a folder leaves there.
-use Rattle.cweb_tools.proofs.Common.{◌≡◌, ◌∙◌, refl, sym, ap, subst, ℕ, Bool, true, false, List, [], ◌∷◌, map, Option, None, IsSome, IsTrue, World, OptionsModel, TangleCourse, IsTangleCourse, FollowsActs, RanFreely, All-nil, All-cons, File, Act, Devices, SinkContents, SinkModel, ShelfModel, at, known, world_of, script, shown_by, TanglePromises, written_files}
+use Rattle.cweb_tools.proofs.Common.{◌≡◌, ◌∙◌, refl, sym, ap, subst, ℕ, Bool, true, false, List, [], ◌∷◌, map, Option, None, IsSome, IsTrue, World, OptionsModel, TangleCourse, IsTangleCourse, FollowsActs, RanFreely, All-nil, All-cons, File, Act, Devices, SinkContents, SinkModel, FailedReads, at, known, world_of, script, shown_by, TanglePromises, written_files}
 use Rattle.cweb_files.specs.Files.{put_file}
 use Rattle.std.specs.Prelude.{fold, is_some, option_map}
 use Rattle.cweb_system.specs.declared.written.WrittenFile.{WrittenFile}
@@ -56,7 +56,7 @@ left_in_folder system fs bins world args log log' status run tells course is fre
     files_from false after now files tell is = absurd (cc)
 
 -- The model of a shelf over a file system.
-abbrev pub shelf_seen : {F H : Type 0} (system : FileSystem F H) → FolderShelf F H system → ShelfModel
+abbrev pub shelf_seen : {F H : Type 0} (system : FileSystem F H) → FolderShelf F H system → FailedReads
 shelf_seen system shelf = record { failed = shelf.failed; blamed = known (system.disk shelf.fs).tells [] }
 
 -- What can be read through it.
@@ -90,7 +90,7 @@ pub runs_in : {F H : Type 0} (system : FileSystem F H) (fs : F) (Promises : Worl
     (at (shelf_seen system shelf') out' log') status
     → KeepsInFolder (Promises (world_in system fs inputs)) (at (shelf_in system fs) out log) out' log' status
 runs_in system fs Promises inputs shelf shelf' out out' log log' status same zero stays run =
-    subst (λ (from : ShelfModel × World). KeepsInFolder (Promises from.1) (at from.0 out log) out' log' status)
+    subst (λ (from : FailedReads × World). KeepsInFolder (Promises from.1) (at from.0 out log) out' log' status)
     (λ i. (begins_in system fs shelf same zero i, world_in system (same i) inputs))
     (record {
       shelf = shelf_seen system shelf';

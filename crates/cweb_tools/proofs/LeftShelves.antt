@@ -1,5 +1,5 @@
 -- What runs leave in the shelf.
-use Rattle.cweb_tools.proofs.Common.{◌≡◌, inl, inr, ℕ, List, [], ◌∷◌, refl, ◌∙◌, ap, arith, Option, Some, None, flat_map, line, Devices, ShelfModel, SinkModel, Stop, ReadFault, Act, judges, after_act, ending, PerformsActs, RunEnds, completes, stops, FollowsActs, IsStopped}
+use Rattle.cweb_tools.proofs.Common.{◌≡◌, inl, inr, ℕ, List, [], ◌∷◌, refl, ◌∙◌, ap, arith, Option, Some, None, flat_map, line, Devices, FailedReads, SinkModel, Stop, ReadFault, Act, judges, after_act, ending, PerformsActs, RunEnds, completes, stops, FollowsActs, IsStopped}
 use Rattle.std.specs.Prelude.{is_some, option_map}
 use Rattle.cweb_tools.specs.laws.LeftDevices.{LeavesShelf}
 use Rattle.cweb_tools.proofs.Broken.{broken, shelf_after}
@@ -36,7 +36,7 @@ shelf_so (ReadFault file) about is blamed answered = record {
 }
 shelf_so stop about is same answered = record {
   none = λ counted. same;
-  one = λ differs. absurd (differs (ap (λ (shelf : ShelfModel). shelf.failed) same));
+  one = λ differs. absurd (differs (ap (λ (shelf : FailedReads). shelf.failed) same));
 }
 
 ends_shelf : {acts : List Act} {expected : ℕ} {old new : Devices} {status : ℕ} → RunEnds acts expected old new status
@@ -44,7 +44,7 @@ ends_shelf : {acts : List Act} {expected : ℕ} {old new : Devices} {status : �
 ends_shelf {acts} {old = old} {new = new} (completes run answered) =
     let same = shelf_all acts old new run in record {
       none = λ counted. same;
-      one = λ differs. absurd (differs (ap (λ (shelf : ShelfModel). shelf.failed) same));
+      one = λ differs. absurd (differs (ap (λ (shelf : FailedReads). shelf.failed) same));
     }
 ends_shelf {acts} {old = old} (stops (ending stop about) mid run logs answered) = shelf_so stop about
     (is_stopped acts mid run logs)
@@ -60,7 +60,7 @@ mapped : {A : Type 0} (f : A → A) (known : Option A) → is_some (option_map f
 mapped f None = refl
 mapped f (Some x) = refl
 
-after_stop : (stop : Stop) (about : List ℕ) (shelf : ShelfModel)
+after_stop : (stop : Stop) (about : List ℕ) (shelf : FailedReads)
     → is_some (shelf_after stop about shelf).blamed ≡ is_some shelf.blamed
 after_stop (ReadFault file) about shelf = mapped _ shelf.blamed
 after_stop stop about shelf = refl
@@ -68,8 +68,8 @@ after_stop stop about shelf = refl
 pub shelf_known : {acts : List Act} {expected : ℕ} {old new : Devices} {status : ℕ}
     → RunEnds acts expected old new status → is_some new.shelf.blamed ≡ is_some old.shelf.blamed
 shelf_known {acts} {old = old} {new = new} (completes run answered) =
-    ap (λ (shelf : ShelfModel). is_some shelf.blamed) (shelf_all acts old new run)
+    ap (λ (shelf : FailedReads). is_some shelf.blamed) (shelf_all acts old new run)
 shelf_known {acts} {old = old} (stops (ending stop about) mid run logs answered) =
     ap (λ (d : Devices). is_some d.shelf.blamed) logs.others
-    ∙ ap (λ (shelf : ShelfModel). is_some shelf.blamed) (shelf_until acts stop about old mid run)
+    ∙ ap (λ (shelf : FailedReads). is_some shelf.blamed) (shelf_until acts stop about old mid run)
     ∙ after_stop stop about old.shelf

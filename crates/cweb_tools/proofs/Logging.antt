@@ -1,5 +1,5 @@
 -- Logging of items is the doing of acts.
-use Rattle.cweb_tools.proofs.Common.{◌≡◌, ◌<◌, ◌+◌, ◌⊎◌, inl, inr, ℕ, zero, suc, List, [], ◌∷◌, ◌++◌, map, refl, sym, ◌∙◌, ap, append-nil, length, arith, flat_map, ◌==◌, Bool, true, false, None, Some, Result, Ok, Err, LogFault, Wrote, FailsWithin, Logs, logged, log_failed, appended, written, LogItem, line, starred, SinkModel, ShelfModel, ending, PerformsActs, says, at, DoesInLog, log_ending, starred_acts, when}
+use Rattle.cweb_tools.proofs.Common.{◌≡◌, ◌<◌, ◌+◌, ◌⊎◌, inl, inr, ℕ, zero, suc, List, [], ◌∷◌, ◌++◌, map, refl, sym, ◌∙◌, ap, append-nil, length, arith, flat_map, ◌==◌, Bool, true, false, None, Some, Result, Ok, Err, LogFault, Wrote, FailsWithin, Logs, logged, log_failed, appended, written, LogItem, line, starred, SinkModel, FailedReads, ending, PerformsActs, says, at, DoesInLog, log_ending, starred_acts, when}
 use Rattle.cweb_files.proofs.Appending.{appended_on, written_none, written_then}
 use Rattle.cweb_tools.proofs.Doing.{does_none}
 
@@ -19,7 +19,7 @@ cuts (x ∷ a) b (y ∷ prefix) rest is =
     ]
 
 -- The log failed within one of the lines.
-lines_stop : (item : LogItem) (items : List LogItem) (shelf : ShelfModel) (out : SinkModel) (old new : SinkModel)
+lines_stop : (item : LogItem) (items : List LogItem) (shelf : FailedReads) (out : SinkModel) (old new : SinkModel)
     → FailsWithin (flat_map line (item ∷ items)) old new
     → PerformsActs (map says (item ∷ items)) (Some (ending LogFault [])) (at shelf out old) (at shelf out new)
 lines_stop item [] shelf out old new fails =
@@ -46,7 +46,7 @@ lines_stop item (next ∷ items) shelf out old new fails =
     ]
 
 -- All lines were logged.
-lines_said : (items : List LogItem) (shelf : ShelfModel) (out : SinkModel) (old new : SinkModel)
+lines_said : (items : List LogItem) (shelf : FailedReads) (out : SinkModel) (old new : SinkModel)
     → new ≡ written (flat_map line items) old → PerformsActs (map says items) None (at shelf out old) (at shelf out new)
 lines_said [] shelf out old new is = ap (at shelf out) (is ∙ sym (written_none old))
 lines_said (item ∷ items) shelf out old new is = inl (

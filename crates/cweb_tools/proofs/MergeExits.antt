@@ -1,5 +1,5 @@
 -- The exits of a merge that has begun.
-use Rattle.cweb_tools.proofs.Common.{◌≤◌, ◌≡◌, inl, inr, ℕ, ◌+◌, List, [], ◌∷◌, ◌++◌, length, map, refl, sym, subst, ◌∙◌, ap, append-nil, Option, Some, IsSome, names_found, World, Found, Event, SoFar, EmitsLines, ReportsPrefix, files_named, emitted_lines, reported_faults, openings, taken_lines, IsWithinLimits, BeginsMerge, written_lines, StopsWriting, WritingStops, WritesPrefix, SourceFault, LINES, BYTES, Stop, Logs, stop_line, subject, source_item, SinkModel, ShelfModel, Devices, LogItem, WebNames, Course, merging, found_course, FollowsActs, MergeCanCome, merge_acts, acts_status, judges, opens, says, merges, at, Breaks, ending, appended, changed, with_printed, write_failures_of, RunEnds, EndsInLog}
+use Rattle.cweb_tools.proofs.Common.{◌≤◌, ◌≡◌, inl, inr, ℕ, ◌+◌, List, [], ◌∷◌, ◌++◌, length, map, refl, sym, subst, ◌∙◌, ap, append-nil, Option, Some, IsSome, names_found, World, Found, Event, SoFar, EmitsLines, ReportsPrefix, files_named, emitted_lines, reported_faults, openings, taken_lines, IsWithinLimits, BeginsMerge, written_lines, StopsWriting, WritingStops, WritesPrefix, SourceFault, LINES, BYTES, Stop, Logs, stop_line, subject, source_item, SinkModel, FailedReads, Devices, LogItem, WebNames, Course, merging, found_course, FollowsActs, MergeCanCome, merge_acts, acts_status, judges, opens, says, merges, at, Breaks, ending, appended, changed, with_printed, write_failures_of, RunEnds, EndsInLog}
 use Rattle.cweb_lines.specs.Events.{fault}
 use Rattle.cweb_tools.proofs.Carried.{either}
 use Rattle.cweb_tools.proofs.Doing.{ends_halted, ends_on}
@@ -29,7 +29,7 @@ Merges names course before after status =
 
 -- A run that begins a merge with these events.
 module _ (world : World) (names : WebNames) (found : Option Found) (changes : Option (Option Found))
-    (shelf shelf' : ShelfModel) (out out' l l' : SinkModel) (status : ℕ) (old : SoFar) (all : List Event)
+    (shelf shelf' : FailedReads) (out out' l l' : SinkModel) (status : ℕ) (old : SoFar) (all : List Event)
     (begins : IsSome shelf.blamed → BeginsMerge world found changes old all) where
   begun : (some : IsSome shelf.blamed)
       → found_course world names found changes ≡ merging ((begins some).name ∷ names_found (begins some).change) all

@@ -1,5 +1,5 @@
 -- A run of `wmerge` that can't begin its merge.
-use Rattle.cweb_tools.proofs.Common.{codes, ◌≡◌, ◌⊎◌, inl, inr, ℕ, List, [], ◌∷◌, refl, sym, subst, Option, Some, None, IsSome, World, Found, StartStops, StopsAtStart, Stop, Usage, WebNotOpened, ChangeNotOpened, Memory, Logs, stop_line, start_subject, stopped, SinkModel, ShelfModel, LogItem, line, WebNames, Course, merging, merge_course, change_name, found_course, EndsMerge, merge_acts, MergeCanCome, Act, judges, opens, says, at, RunEnds}
+use Rattle.cweb_tools.proofs.Common.{codes, ◌≡◌, ◌⊎◌, inl, inr, ℕ, List, [], ◌∷◌, refl, sym, subst, Option, Some, None, IsSome, World, Found, StartStops, StopsAtStart, Stop, Usage, WebNotOpened, ChangeNotOpened, Memory, Logs, stop_line, start_subject, stopped, SinkModel, FailedReads, LogItem, line, WebNames, Course, merging, merge_course, change_name, found_course, EndsMerge, merge_acts, MergeCanCome, Act, judges, opens, says, at, RunEnds}
 use Rattle.cweb_tools.proofs.Courses.{no_change, no_web}
 use Rattle.cweb_tools.proofs.Doing.{ends_on}
 use Rattle.cweb_tools.proofs.DoingFiles.{memory_halts}
@@ -26,7 +26,7 @@ can_merge names world (Some web) (Some change) = tt
 
 -- Memory ran out while the words were parsed or the files were opened.
 memory_ends : (names : WebNames) (course : Course) → MergeCanCome (Some names) course → (expected : ℕ)
-    (shelf : ShelfModel) (out : SinkModel) {l l' : SinkModel} {status : ℕ}
+    (shelf : FailedReads) (out : SinkModel) {l l' : SinkModel} {status : ℕ}
     → Logs (stop_line Memory []) l l' → status ≡ 1
     → RunEnds (merge_acts course) expected (at shelf out l) (at shelf out l') status
 memory_ends names course can expected shelf out {l} {l'} {status} logs answered =
@@ -35,7 +35,7 @@ memory_ends names course can expected shelf out {l} {l'} {status} logs answered 
     (memory_halts judges begun.0 refl logs answered)
 
 -- The words can't be read, or an allocation for their names failed.
-pub words_stopped : (world : World) (request : Option WebNames) (stop : Stop) (shelf : ShelfModel) (out : SinkModel)
+pub words_stopped : (world : World) (request : Option WebNames) (stop : Stop) (shelf : FailedReads) (out : SinkModel)
     {l l' : SinkModel} {status : ℕ} → (stop ≡ Usage) ⊎ (stop ≡ Memory) → (stop ≡ Usage → request ≡ None)
     → (request ≡ None → stop ≡ Usage) → Logs (stop_line stop usage) l l' → status ≡ 1
     → EndsMerge request (merge_course world request) (at shelf out l) (at shelf out l') status
@@ -64,7 +64,7 @@ words_stopped world (Some names) stop shelf out {l} {l'} why none_by is_usage lo
     some_memory names stop (inr is) none_by = is
 
 -- A merge could not begin.
-module _ (world : World) (names : WebNames) (shelf : ShelfModel) (out : SinkModel) (l l' : SinkModel) (status : ℕ)
+module _ (world : World) (names : WebNames) (shelf : FailedReads) (out : SinkModel) (l l' : SinkModel) (status : ℕ)
     (answered : status ≡ 1) where
   ends_said : (item : LogItem) → Logs (line item) l l' → RunEnds (judges ∷ opens ∷ says item ∷ []) 1
       (at shelf (out_of shelf out) l) (at shelf (out_of shelf out) l') status

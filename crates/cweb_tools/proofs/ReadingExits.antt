@@ -1,5 +1,5 @@
 -- The exits of `ctangle` after its merge began are ends of a run.
-use Rattle.cweb_tools.proofs.Common.{◌≤◌, ◌≡◌, inl, inr, ℕ, List, [], ◌∷◌, ◌++◌, length, refl, sym, ◌∙◌, ap, IsSome, Option, Some, None, names_found, World, Found, Event, SoFar, StopsReading, files_named, emitted_lines, reported_faults, openings, taken_lines, IsWithinLimits, BeginsMerge, SourceFault, LINES, BYTES, Stop, Scanned, scanned, ScanEndsEarly, Scans, stop_line, subject, OptionsModel, Logs, SinkModel, Devices, ShelfModel, Act, acts_status, Breaks, ending, opens, reads, Course, found_course, merging, at, RunEnds, Does, TangleCourse, tangling, LaterActs, opening_acts, EndsAs, tangled, web_of}
+use Rattle.cweb_tools.proofs.Common.{◌≤◌, ◌≡◌, inl, inr, ℕ, List, [], ◌∷◌, ◌++◌, length, refl, sym, ◌∙◌, ap, IsSome, Option, Some, None, names_found, World, Found, Event, SoFar, StopsReading, files_named, emitted_lines, reported_faults, openings, taken_lines, IsWithinLimits, BeginsMerge, SourceFault, LINES, BYTES, Stop, Scanned, scanned, ScanEndsEarly, Scans, stop_line, subject, OptionsModel, Logs, SinkModel, Devices, FailedReads, Act, acts_status, Breaks, ending, opens, reads, Course, found_course, merging, at, RunEnds, Does, TangleCourse, tangling, LaterActs, opening_acts, EndsAs, tangled, web_of}
 use Rattle.cweb_tools.proofs.Carried.{either}
 use Rattle.cweb_tools.proofs.Doing.{ends_halted, ends_on}
 use Rattle.cweb_tools.proofs.Exits.{begins_course, faults_reported, limits_kept, names_reported, opened_by}
@@ -10,7 +10,7 @@ use Rattle.cweb_tools.proofs.TangleExits.{can_come}
 -- A run that begins a merge with these events.
 module _ (later : LaterActs) (args : OptionsModel) (world : World) (found : Option Found)
     (changes : Option (Option Found))
-    (shelf shelf' : ShelfModel) (out : SinkModel) (l : SinkModel) (status : ℕ) (old new : SoFar) (all : List Event)
+    (shelf shelf' : FailedReads) (out : SinkModel) (l : SinkModel) (status : ℕ) (old new : SoFar) (all : List Event)
     (begins : IsSome shelf.blamed → BeginsMerge world found changes old all) where
   abbrev merged : Course
   merged = found_course world args.names.merge found changes
@@ -68,7 +68,7 @@ module _ (later : LaterActs) (args : OptionsModel) (world : World) (found : Opti
   reads_so : (files : List (List ℕ)) (events : List Event) → IsWithinLimits (taken_lines events) → shelf' ≡ shelf
       → Does (opens ∷ reads files events ∷ []) None (at shelf out l) (at shelf' out l)
   reads_so files events within same =
-      record { runs = inl (tt, inl (within, ap (λ (shelf : ShelfModel). at shelf out l) same)) }
+      record { runs = inl (tt, inl (within, ap (λ (shelf : FailedReads). at shelf out l) same)) }
 
   -- Everything was read, and the run continued with the web.
   pub read_whole : (files : List (List ℕ)) (faults : List SourceFault) (made : Scanned) (after : Devices) → files

@@ -1,5 +1,5 @@
 -- How a whole run ends, by the result of parsing its words.
-use Rattle.cweb_tools.proofs.Common.{◌≡◌, ◌⊎◌, inl, inr, ℕ, List, [], ◌∷◌, ◌++◌, refl, sym, subst, Option, Some, None, World, Stop, Usage, Memory, LogFault, banner, stopped, stop_line, OptionsModel, Logs, SinkModel, Devices, ShelfModel, Act, ending, judges, says, at, RunEnds, Does, DoesInLog, FollowsActs, TangleCourse, change_not_there, not_there, script, acts_status, tangling, unread, when, CanCome, opening_acts, tangle_later, EndsAs, shown_by, tangle_course}
+use Rattle.cweb_tools.proofs.Common.{◌≡◌, ◌⊎◌, inl, inr, ℕ, List, [], ◌∷◌, ◌++◌, refl, sym, subst, Option, Some, None, World, Stop, Usage, Memory, LogFault, banner, stopped, stop_line, OptionsModel, Logs, SinkModel, Devices, FailedReads, Act, ending, judges, says, at, RunEnds, Does, DoesInLog, FollowsActs, TangleCourse, change_not_there, not_there, script, acts_status, tangling, unread, when, CanCome, opening_acts, tangle_later, EndsAs, shown_by, tangle_course}
 use Rattle.cweb_tools.proofs.Doing.{does_in, does_on, ends_halted, ends_on}
 use Rattle.cweb_tools.proofs.DoingFiles.{log_halts_all}
 use Rattle.cweb_tools.proofs.Statuses.{banner_status}
@@ -46,7 +46,7 @@ pub words_end : (usage : List ℕ) (acts : TangleCourse → List Act) → acts u
     → (world : World) (args : Option OptionsModel) →
     ((one : OptionsModel) → args ≡ Some one → (course : TangleCourse)
     → CanCome (Some one) course → Judges (acts course)) → (stop : Stop)
-    (shelf : ShelfModel) (out : SinkModel) {l l' : SinkModel} (status : ℕ) → (stop ≡ Usage) ⊎ (stop ≡ Memory)
+    (shelf : FailedReads) (out : SinkModel) {l l' : SinkModel} (status : ℕ) → (stop ≡ Usage) ⊎ (stop ≡ Memory)
     → (stop ≡ Usage → args ≡ None) → (args ≡ None → stop ≡ Usage) → Logs (stop_line stop usage) l l'
     → status ≡ 1 → EndsRun acts world args (at shelf out l) (at shelf out l') status
 words_end usage acts unread_is world None judged_by stop shelf out {l} {l'} status why none_by is_usage logs
@@ -78,7 +78,7 @@ words_end usage acts unread_is world (Some args) judged_by stop shelf out {l} {l
     }
 
 -- The banner could not be logged.
-pub banner_ends : (world : World) (args : OptionsModel) (shelf : ShelfModel) (out : SinkModel) {l l' : SinkModel}
+pub banner_ends : (world : World) (args : OptionsModel) (shelf : FailedReads) (out : SinkModel) {l l' : SinkModel}
     → DoesInLog (when args.shown.banner banner) (Some (ending LogFault [])) l l'
     → EndsRun (script args.shown) world (Some args) (at shelf out l) (at shelf out l') 1
 banner_ends world args shelf out {l} {l'} does =
@@ -90,7 +90,7 @@ banner_ends world args shelf out {l} {l'} does =
     }
 
 -- The run continued after the banner.
-pub named_ends : (world : World) (args : OptionsModel) (shelf : ShelfModel) (out : SinkModel) {l l' : SinkModel}
+pub named_ends : (world : World) (args : OptionsModel) (shelf : FailedReads) (out : SinkModel) {l l' : SinkModel}
     (after : Devices) (status : ℕ) → DoesInLog (when args.shown.banner banner) None l l'
     → EndsAs (tangle_later args.shown) args (tangle_course world (Some args)) (at shelf out l') after status
     → EndsRun (script args.shown) world (Some args) (at shelf out l) after status

@@ -1,12 +1,12 @@
 -- The early exits of `ctangle`, before its web is read, are ends of a run.
-use Rattle.cweb_tools.proofs.Common.{◌≡◌, inl, inr, ℕ, List, [], ◌∷◌, refl, ap, IsSome, Option, Some, None, contents_found, World, Found, Event, started, StartStops, emitted_lines, reported_faults, merge, StopsAtStart, Stop, WebNotOpened, ChangeNotOpened, Memory, scanned, LogItem, line, stopped, start_subject, stop_line, OptionsModel, Logs, SinkModel, ShelfModel, Act, ending, opens, says, change_name, found_course, at, Does, RunEnds, TangleCourse, change_not_there, not_there, CanCome, LaterActs, opening_acts, EndsAs, tangled}
+use Rattle.cweb_tools.proofs.Common.{◌≡◌, inl, inr, ℕ, List, [], ◌∷◌, refl, ap, IsSome, Option, Some, None, contents_found, World, Found, Event, started, StartStops, emitted_lines, reported_faults, merge, StopsAtStart, Stop, WebNotOpened, ChangeNotOpened, Memory, scanned, LogItem, line, stopped, start_subject, stop_line, OptionsModel, Logs, SinkModel, FailedReads, Act, ending, opens, says, change_name, found_course, at, Does, RunEnds, TangleCourse, change_not_there, not_there, CanCome, LaterActs, opening_acts, EndsAs, tangled}
 use Rattle.cweb_tools.proofs.Courses.{no_change, no_web}
 use Rattle.cweb_tools.proofs.Doing.{ends_halted, ends_on}
 use Rattle.cweb_tools.proofs.DoingFiles.{ends_reported}
 use Rattle.cweb_tools.proofs.Logging.{logs_write, said}
 
 -- The line of what ended the run was logged, or the log failed within it.
-pub reported_last : (item : LogItem) (shelf : ShelfModel) (out : SinkModel) {l l' : SinkModel} → Logs (line item) l l'
+pub reported_last : (item : LogItem) (shelf : FailedReads) (out : SinkModel) {l l' : SinkModel} → Logs (line item) l l'
     → RunEnds (says item ∷ []) 1 (at shelf out l) (at shelf out l') 1
 reported_last item shelf out logs =
     let writes = logs_write logs in
@@ -22,13 +22,13 @@ can_come args world (Some web) (Some change) =
     record { faults = reported_faults events; made = scanned (emitted_lines events); is = refl }
 
 -- The shelf was searched, and nothing else was done.
-module _ (shelf shelf' : ShelfModel) (same : shelf' ≡ shelf) (out : SinkModel) (l l' : SinkModel) where
+module _ (shelf shelf' : FailedReads) (same : shelf' ≡ shelf) (out : SinkModel) (l l' : SinkModel) where
   looks : Does (opens ∷ []) None (at shelf out l) (at shelf' out l)
-  looks = record { runs = inl (tt, ap (λ (shelf : ShelfModel). at shelf out l) same) }
+  looks = record { runs = inl (tt, ap (λ (shelf : FailedReads). at shelf out l) same) }
 
   -- An allocation failed there.
   not_opened : (acts : List Act) → Does (opens ∷ acts) (Some (ending Memory [])) (at shelf out l) (at shelf' out l)
-  not_opened acts = record { runs = inr (ap (λ (shelf : ShelfModel). at shelf out l) same) }
+  not_opened acts = record { runs = inr (ap (λ (shelf : FailedReads). at shelf out l) same) }
 
   module _ (later : LaterActs) (args : OptionsModel) (world : World) (status : ℕ) (answered : status ≡ 1) where
     abbrev pub course : Option Found → Option (Option Found) → TangleCourse

@@ -9,7 +9,7 @@ use Rattle.cweb_input.specs.declared.stop.Stop.TheVariants.{ReadFault, LineTooLo
 use Rattle.cweb_input.specs.declared.stop.Stop.TheVariants.{WriteFault, LogFault}
 use Rattle.cweb_log.specs.Items.{LogItem, is_fault, line}
 use Rattle.cweb_log.specs.Log.{file_name_at, stop_line}
-use Rattle.cweb_log.specs.DeviceModels.{Devices, Logs, ShelfModel}
+use Rattle.cweb_log.specs.DeviceModels.{Devices, Logs, FailedReads}
 use Rattle.cweb_files.specs.Sinks.{FailsWithin, SinkContents, SinkModel, changed, failing, with_printed, written}
 use Rattle.cweb_files.specs.Sinks.{FailsWithin, SinkContents, SinkModel, changed, failing, with_printed, written}
 
@@ -51,7 +51,7 @@ without_file why now =
     record { bytes = []; beside = record { files = now.beside.files; draft = None; refused = why } }
 
 -- A read of the file of this name fails.
-abbrev pub blaming : List ℕ → ShelfModel → ShelfModel
+abbrev pub blaming : List ℕ → FailedReads → FailedReads
 blaming name shelf = record {
   failed = shelf.failed + 1;
   blamed = option_map (λ (names : List (List ℕ)). names ++ name ∷ []) shelf.blamed;

@@ -4,11 +4,11 @@ use Rattle.cweb_files.specs.Files.{File}
 use Rattle.cweb_system.specs.declared.file_system.FileSystem.{Ghosts as FileSystem}
 use Rattle.cweb_system.specs.Bins.{empty_bins}
 use Rattle.cweb_system.specs.Tree.{Tree, contents}
-use Rattle.cweb_log.specs.DeviceModels.{Devices, ShelfModel}
+use Rattle.cweb_log.specs.DeviceModels.{Devices, FailedReads}
 use Rattle.cweb_files.specs.Sinks.{SinkModel, known}
 
 -- The shelf before a run.
-abbrev pub shelf_in : {F H : Type 0} → FileSystem F H → F → ShelfModel
+abbrev pub shelf_in : {F H : Type 0} → FileSystem F H → F → FailedReads
 shelf_in system fs = record { failed = 0; blamed = known (system.disk fs).tells [] }
 
 -- The devices before a run of `ctangle`: the files of a folder, and bins that have committed none.
@@ -18,7 +18,7 @@ devices_before system fs log = record { shelf = shelf_in system fs; out = empty_
 -- A run in a folder keeps these promises. If the file system is observable, no read failed.
 pub record KeepsInFolder (Promises : Devices → Devices → ℕ → Type 0) (before : Devices) (out : SinkModel)
     (log : SinkModel) (status : ℕ) : Type 0 where
-  pub shelf : ShelfModel
+  pub shelf : FailedReads
   pub reads : IsSome before.shelf.blamed → shelf.failed ≡ before.shelf.failed
   pub promises : Promises before (record { shelf = shelf; out = out; log = log }) status
 

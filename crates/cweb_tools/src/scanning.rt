@@ -6,7 +6,7 @@ ghost use Rattle.cweb_scan.specs.surface.Scan.{IsScanBelow};
 ghost use Rattle.cweb_scan.specs.surface.ScannedModel.{scanned_model};
 ghost use Rattle.cweb_log.specs.inner.Log.{start_subject};
 ghost use Rattle.cweb_log.specs.surface.Options.{options_of};
-ghost use Rattle.cweb_log.specs.DeviceModels.{shelf_model};
+ghost use Rattle.cweb_log.specs.DeviceModels.{contents_of, failed_reads};
 ghost use Rattle.cweb_tools.specs.Course.{change_name, world_of};
 ghost use Rattle.cweb_tools.specs.inner.Scanning.{CompletesScan, StopsScan};
 ghost use Rattle.cweb_tools.specs.inner.Tangle.{tangle_course};
@@ -25,20 +25,20 @@ pub(crate) fn scan_web<S: Shelf, L: Sink>(
     shelf: &mut S,
     log: &mut L,
 ) -> Result<(Merger<S>, Scanned), u8>
-    requires shelf_count { S.failed shelf.old + 1 < 2 ^ 64 }
+    requires shelf_count { (S.model shelf.old).failed + 1 < 2 ^ 64 }
     requires log_count { (L.model log.old).failed + 1 < 2 ^ 64 }
     ensures scans { IfOk result (λ read. CompletesScan (options_of options.now)
-        (tangle_course (world_of (S.texts shelf.old) (option_copied inputs.entry))
+        (tangle_course (world_of (contents_of (S.model shelf.old)).texts (option_copied inputs.entry))
         (Some (options_of options.now)))
-        (shelf_model S.Shelf shelf.old) (shelf_model S.Shelf shelf.new) (L.model log.old)
+        (failed_reads (S.model shelf.old)) (failed_reads (S.model shelf.new)) (L.model log.old)
         (so_far read.0).names (so_far read.0).faults (scanned_model read.1)) }
     ensures below { IfOk result
         (λ read. IsScanBelow (length (so_far read.0).names) (scanned_model read.1)) }
     ensures silent { OnOk result (log.new ≡ log.old) }
     ensures stops { IfErr result (λ status. StopsScan (options_of options.now)
-        (tangle_course (world_of (S.texts shelf.old) (option_copied inputs.entry))
+        (tangle_course (world_of (contents_of (S.model shelf.old)).texts (option_copied inputs.entry))
         (Some (options_of options.now)))
-        (shelf_model S.Shelf shelf.old) (shelf_model S.Shelf shelf.new)
+        (failed_reads (S.model shelf.old)) (failed_reads (S.model shelf.new))
         (L.model log.old) (L.model log.new) status) }
 {
     let started = Merger::start(

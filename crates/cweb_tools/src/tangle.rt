@@ -5,7 +5,7 @@ ghost use Rattle.std.specs.Option.{option_copied};
 ghost use Rattle.cweb_scan.specs.surface.ScannedModel.{scanned_model};
 ghost use Rattle.cweb_out.specs.surface.Outputs.{IsPlanOf};
 ghost use Rattle.cweb_log.specs.CommandLine.{options_by};
-ghost use Rattle.cweb_log.specs.DeviceModels.{CountsFit, SinkCountsFit, devices};
+ghost use Rattle.cweb_log.specs.DeviceModels.{CountsFit, SinkCountsFit, contents_of, devices};
 ghost use Rattle.cweb_log.specs.Items.{banner};
 ghost use Rattle.cweb_log.specs.surface.Options.{options_of};
 ghost use Rattle.cweb_tools.specs.Acts.{LogsEnding, acts_status, ending, plans};
@@ -43,12 +43,12 @@ pub fn run_ctangle<S: Shelf, B: Bins, L: Sink>(
     ensures promises { let before =
         devices S.Shelf B.Sink L.Sink shelf.old bins.old log.old in
         let args = options_by (map (λ word. word.now) words.now) in
-        let world = world_of (S.texts shelf.old) (option_copied inputs.entry) in
+        let world = world_of (contents_of (S.model shelf.old)).texts (option_copied inputs.entry) in
         TanglePromises world args before
         (devices S.Shelf B.Sink L.Sink shelf.new bins.new log.new) result }
     ensures freely { let before = devices S.Shelf B.Sink L.Sink shelf.old bins.old log.old in
         let args = options_by (map (λ word. word.now) words.now) in
-        let world = world_of (S.texts shelf.old) (option_copied inputs.entry) in
+        let world = world_of (contents_of (S.model shelf.old)).texts (option_copied inputs.entry) in
         TanglesFreely world args before
         (devices S.Shelf B.Sink L.Sink shelf.new bins.new log.new) result }
     ensures untouched { options_by (map (λ word. word.now) words.now) ≡ None →

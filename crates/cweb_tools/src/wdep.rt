@@ -3,7 +3,7 @@ ghost use Rattle.std.specs.Prelude.{◌≡◌, ◌≢◌, ◌<◌, ◌+◌, ◌^
 ghost use Rattle.std.specs.Option.{option_copied};
 ghost use Rattle.cweb_out.specs.surface.Outputs.{IsPlanOf};
 ghost use Rattle.cweb_log.specs.CommandLine.{options_by};
-ghost use Rattle.cweb_log.specs.DeviceModels.{CountsFit, SinkCountsFit, devices};
+ghost use Rattle.cweb_log.specs.DeviceModels.{CountsFit, SinkCountsFit, contents_of, devices};
 ghost use Rattle.cweb_tools.specs.Acts.{acts_status};
 ghost use Rattle.cweb_tools.specs.Course.{world_of};
 ghost use Rattle.cweb_tools.specs.Depend.{DependPromises, DependsFreely, depend_plan_acts, depend_web_acts};
@@ -39,14 +39,14 @@ pub fn run_wdep<S: Shelf, W: Sink, L: Sink>(
     ensures promises { let before =
         devices S.Shelf W.Sink L.Sink shelf.old out.old log.old in
         let args = options_by (map (λ word. word.now) words.now) in
-        let world = world_of (S.texts shelf.old) (option_copied inputs.entry) in
+        let world = world_of (contents_of (S.model shelf.old)).texts (option_copied inputs.entry) in
         let targets = targets_by (map (λ word. word.now) words.now) in
         DependPromises world targets args before
         (devices S.Shelf W.Sink L.Sink shelf.new out.new log.new) result }
     ensures freely { let before =
         devices S.Shelf W.Sink L.Sink shelf.old out.old log.old in
         let args = options_by (map (λ word. word.now) words.now) in
-        let world = world_of (S.texts shelf.old) (option_copied inputs.entry) in
+        let world = world_of (contents_of (S.model shelf.old)).texts (option_copied inputs.entry) in
         let targets = targets_by (map (λ word. word.now) words.now) in
         DependsFreely world targets args before
         (devices S.Shelf W.Sink L.Sink shelf.new out.new log.new) result }

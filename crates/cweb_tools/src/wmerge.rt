@@ -6,7 +6,7 @@ ghost use Rattle.cweb_input.specs.surface.OpenSources.{files_named};
 ghost use Rattle.cweb_lines.specs.surface.MergerCalls.{stop_in};
 ghost use Rattle.cweb_log.specs.Items.{source_item};
 ghost use Rattle.cweb_log.specs.inner.Log.{start_subject, subject};
-ghost use Rattle.cweb_log.specs.DeviceModels.{CountsFit, devices};
+ghost use Rattle.cweb_log.specs.DeviceModels.{CountsFit, contents_of, devices};
 ghost use Rattle.cweb_log.specs.CommandLine.{web_names_by};
 ghost use Rattle.cweb_log.specs.inner.Words.{merge_word_names};
 ghost use Rattle.cweb_tools.specs.inner.Begun.{MergesBegun};
@@ -39,13 +39,13 @@ pub fn run_wmerge<S: Shelf, W: Sink, L: Sink>(
     ensures promises { let before =
         devices S.Shelf W.Sink L.Sink shelf.old out.old log.old in
         let args = web_names_by (map (λ word. word.now) words.now) in
-        let world = world_of (S.texts shelf.old) (option_copied inputs.entry) in
+        let world = world_of (contents_of (S.model shelf.old)).texts (option_copied inputs.entry) in
         MergePromises world args before
         (devices S.Shelf W.Sink L.Sink shelf.new out.new log.new) result }
     ensures freely { let before =
         devices S.Shelf W.Sink L.Sink shelf.old out.old log.old in
         let args = web_names_by (map (λ word. word.now) words.now) in
-        let world = world_of (S.texts shelf.old) (option_copied inputs.entry) in
+        let world = world_of (contents_of (S.model shelf.old)).texts (option_copied inputs.entry) in
         MergesFreely world args before
         (devices S.Shelf W.Sink L.Sink shelf.new out.new log.new) result }
     ensures untouched { web_names_by (map (λ word. word.now) words.now) ≡ None →
@@ -69,7 +69,7 @@ fn merge_web<S: Shelf, W: Sink, L: Sink>(
     requires counts { CountsFit (devices S.Shelf W.Sink L.Sink shelf.old out.old log.old) }
     ensures { let before =
         devices S.Shelf W.Sink L.Sink shelf.old out.old log.old in
-        let world = world_of (S.texts shelf.old) (option_copied inputs.entry) in
+        let world = world_of (contents_of (S.model shelf.old)).texts (option_copied inputs.entry) in
         let names = Some (merge_word_names args.now) in
         EndsMerge names (merge_course world names) before
         (devices S.Shelf W.Sink L.Sink shelf.new out.new log.new) result }
@@ -97,7 +97,7 @@ fn merge_begun<S: Shelf, W: Sink, L: Sink>(
 ) -> u8
     requires running { stop_in merger.old ≡ None }
     requires counts { CountsFit (devices S.Shelf W.Sink L.Sink shelf.old out.old log.old) }
-    ensures { MergesBegun S.Shelf shelf.old merger.old
+    ensures { MergesBegun (S.model shelf.old) merger.old
         (W.model out.old) (L.model log.old)
         (devices S.Shelf W.Sink L.Sink shelf.new out.new log.new) result }
 {

@@ -2,7 +2,7 @@
 use Rattle.std.specs.Prelude.{◌≡◌, ℕ, List, Some}
 use Rattle.cweb_input.specs.declared.fault.SourceFault.{SourceFault}
 use Rattle.cweb_log.specs.CommandLine.{OptionsModel}
-use Rattle.cweb_log.specs.DeviceModels.{Devices, ShelfModel}
+use Rattle.cweb_log.specs.DeviceModels.{Devices, FailedReads}
 use Rattle.cweb_files.specs.Sinks.{SinkModel}
 use Rattle.cweb_scan.specs.Alone.{Scanned}
 use Rattle.cweb_tools.specs.Acts.{FollowsActs, RunEnds, acts_status}
@@ -17,13 +17,13 @@ EndsAs later args course before after status =
     FollowsActs (opening_acts later) (CanCome (Some args)) (λ taken. taken ≡ course) before after status
 
 -- Something stopped the opening or the scan, and that was logged.
-abbrev pub StopsScan : OptionsModel → TangleCourse → ShelfModel → ShelfModel → SinkModel → SinkModel → ℕ
+abbrev pub StopsScan : OptionsModel → TangleCourse → FailedReads → FailedReads → SinkModel → SinkModel → ℕ
     → Type 0
 StopsScan args course shelf shelf' log log' status = (later : LaterActs) (out : SinkModel)
     → EndsAs later args course (at shelf out log) (at shelf' out log') status
 
 -- The web was scanned. If the acts after that end so, the run ends as its course does.
-abbrev pub CompletesScan : OptionsModel → TangleCourse → ShelfModel → ShelfModel → SinkModel → List (List ℕ)
+abbrev pub CompletesScan : OptionsModel → TangleCourse → FailedReads → FailedReads → SinkModel → List (List ℕ)
     → List SourceFault → Scanned → Type 0
 CompletesScan args course shelf shelf' log files faults made =
     (later : LaterActs) (out : SinkModel) (after : Devices) (status : ℕ)

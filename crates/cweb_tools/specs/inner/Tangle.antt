@@ -8,7 +8,7 @@ use Rattle.cweb_store.specs.Calls.{Stored}
 use Rattle.cweb_log.specs.Items.{LogItem, is_fault, stopped}
 use Rattle.cweb_log.specs.CommandLine.{OptionsModel}
 use Rattle.cweb_log.specs.declared.shown.Shown.{Shown}
-use Rattle.cweb_log.specs.DeviceModels.{ShelfModel}
+use Rattle.cweb_log.specs.DeviceModels.{FailedReads}
 use Rattle.cweb_files.specs.Sinks.{SinkModel}
 use Rattle.cweb_tools.specs.Acts.{Act, FollowsActs, opens, reads, says}
 use Rattle.cweb_tools.specs.Script.{Planning, TangleCourse, Web, unread, not_there, change_not_there, tangling}
@@ -55,6 +55,6 @@ tangle_course world (Some args) = tangled args.names.main (merge_course world (S
 
 -- The run ended before it read anything, as its course does.
 abbrev pub EndsUnread : Option OptionsModel → SinkModel → SinkModel → ℕ → Type 0
-EndsUnread args log log' status = (world : World) (shelf : ShelfModel) (out : SinkModel)
+EndsUnread args log log' status = (world : World) (shelf : FailedReads) (out : SinkModel)
     → FollowsActs (script (shown_by args)) (CanCome args) (λ taken. taken ≡ tangle_course world args) (at shelf out log)
     (at shelf out log') status

@@ -4,7 +4,7 @@ use Rattle.std.specs.Option.{option_and_then}
 use Rattle.cweb_files.specs.Files.{Refused}
 use Rattle.cweb_input.specs.Include.{World}
 use Rattle.cweb_log.specs.CommandLine.{OptionsModel, WebNames}
-use Rattle.cweb_log.specs.DeviceModels.{Devices, ShelfModel}
+use Rattle.cweb_log.specs.DeviceModels.{Devices, FailedReads}
 use Rattle.cweb_files.specs.Sinks.{SinkContents, SinkModel, appended}
 use Rattle.cweb_log.specs.Log.{message_line}
 use Rattle.cweb_tools.specs.Acts.{Act, blaming}
@@ -47,14 +47,14 @@ NamesReadFault name old new = new.failed ≡ old.failed
     → (lines : List ℕ) × (new.contents ≡ appended (lines ++ message_line (codes "Read fault on ") name) old.contents)
 
 -- One read failed. The shelf blames one file, the log names it, and the status is 1.
-pub record BlamesOneFile (old new : ShelfModel) (log log' : SinkModel) (status : ℕ) : Type 0 where
+pub record BlamesOneFile (old new : FailedReads) (log log' : SinkModel) (status : ℕ) : Type 0 where
   pub name : List ℕ
   pub blamed : new ≡ blaming name old
   pub logged : NamesReadFault name log log'
   pub answered : status ≡ 1
 
 -- The shelf after a run, and the log.
-pub record LeavesShelf (old new : ShelfModel) (log log' : SinkModel) (status : ℕ) : Type 0 where
+pub record LeavesShelf (old new : FailedReads) (log log' : SinkModel) (status : ℕ) : Type 0 where
   pub none : new.failed ≡ old.failed → new ≡ old
   pub one : new.failed ≢ old.failed → BlamesOneFile old new log log' status
 

@@ -1,6 +1,6 @@
 use Rattle.cweb_tools.proofs.Common.{ℕ, List, ap, arith, option_copied, World, OptionsModel, Option, Some, options_of, tangle_later}
 use Rattle.cweb_files.specs.Sinks.{SinkModel}
-use Rattle.cweb_log.specs.DeviceModels.{ShelfModel}
+use Rattle.cweb_log.specs.DeviceModels.{FailedReads}
 use Rattle.cweb_system.specs.Bins.{bins_model}
 use Rattle.cweb_tools.specs.InFolder.{shelf_in}
 use Rattle.cweb_tools.proofs.Courses.{options_in}
@@ -52,8 +52,8 @@ returns-in-Ok-scan_web-clause-promises g c =
     let first : SinkModel = bins_model g.F.FileSystem c.into_bins-bins.result in
     let out : SinkModel = bins_model g.F.FileSystem c.tangle_web-status.new.bins in
     let log : SinkModel = g.L.Sink.model c.tangle_web-status.new.log in
-    let shelf : ShelfModel = shelf_seen g.F.FileSystem c.noting-shelf.result in
-    let read : ShelfModel = shelf_seen g.F.FileSystem c.scan_web.new.shelf in
+    let shelf : FailedReads = shelf_seen g.F.FileSystem c.noting-shelf.result in
+    let read : FailedReads = shelf_seen g.F.FileSystem c.scan_web.new.shelf in
     let world : World = world_seen g.F.FileSystem c.noting-shelf.result inputs in
     let args : OptionsModel = options_of c.in-Ok.options in
     let bins = c.into_bins-bins.ensures in
@@ -85,8 +85,8 @@ returns-clause-promises g c =
     let inputs : Option (List ℕ) = option_copied c.args.inputs in
     let out : SinkModel = bins_model g.F.FileSystem c.into_bins.result in
     let log : SinkModel = g.L.Sink.model c.scan_web.new.log in
-    let shelf : ShelfModel = shelf_seen g.F.FileSystem c.noting-shelf.result in
-    let read : ShelfModel = shelf_seen g.F.FileSystem c.scan_web.new.shelf in
+    let shelf : FailedReads = shelf_seen g.F.FileSystem c.noting-shelf.result in
+    let read : FailedReads = shelf_seen g.F.FileSystem c.scan_web.new.shelf in
     let world : World = world_seen g.F.FileSystem c.noting-shelf.result inputs in
     let args : OptionsModel = options_of c.in-Ok.options in
     let bins = c.into_bins.ensures in

@@ -1,4 +1,4 @@
-use Rattle.cweb_tools.proofs.Common.{ℕ, List, Bor, map, web_names_by, merge_acts, ap, Err, refl, Some, World, WebNames, IsMergeCourse, shelf_model, world_of, option_copied}
+use Rattle.cweb_tools.proofs.Common.{ℕ, List, Bor, map, web_names_by, merge_acts, ap, Err, refl, Some, World, WebNames, IsMergeCourse, contents_of, failed_reads, world_of, option_copied}
 use Rattle.cweb_log.specs.inner.Words.{merge_word_names}
 use Rattle.cweb_tools.proofs.Courses.{merge_comes, same_stop}
 use Rattle.cweb_tools.proofs.MergeStarts.{words_stopped}
@@ -8,27 +8,27 @@ use Rattle.cweb_tools.proofs.wmerge.run_wmerge.Goals as goal
 
 pub returns-in-Err-clause-promises : goal.returns-in-Err-clause-promises
 returns-in-Err-clause-promises g c = promised_by (merge_comes
-    (world_of (g.S.Shelf.texts c.args.shelf.now) (option_copied c.args.inputs))
+    (world_of (contents_of (g.S.Shelf.model c.args.shelf.now)).texts (option_copied c.args.inputs))
     (web_names_by (map (λ (word : Bor (List ℕ)). word.now) c.args.words.now)))
-    (words_stopped (world_of (g.S.Shelf.texts c.args.shelf.now) (option_copied c.args.inputs))
+    (words_stopped (world_of (contents_of (g.S.Shelf.model c.args.shelf.now)).texts (option_copied c.args.inputs))
     (web_names_by (map (λ (word : Bor (List ℕ)). word.now) c.args.words.now)) c.in-Err.stop
-    (shelf_model g.S.Shelf c.args.shelf.now) (g.W.Sink.model c.args.out.now) c.in-Err.ensures.stops
+    (failed_reads (g.S.Shelf.model c.args.shelf.now)) (g.W.Sink.model c.args.out.now) c.in-Err.ensures.stops
     (λ is. c.in-Err.ensures.usage.0 (ap Err is))
     (λ none. same_stop _ _ _ refl (c.in-Err.ensures.usage.1 none)) c.log_stop.ensures.logs c.log_stop.ensures.status)
 
 pub returns-in-Err-clause-freely : goal.returns-in-Err-clause-freely
 returns-in-Err-clause-freely g c = ran_freely merge_acts
-    (one_course (world_of (g.S.Shelf.texts c.args.shelf.now) (option_copied c.args.inputs))
+    (one_course (world_of (contents_of (g.S.Shelf.model c.args.shelf.now)).texts (option_copied c.args.inputs))
     (web_names_by (map (λ (word : Bor (List ℕ)). word.now) c.args.words.now))) (returns-in-Err-clause-promises g c)
 
 pub returns-clause-promises : goal.returns-clause-promises
 returns-clause-promises g c =
-    let world : World = world_of (g.S.Shelf.texts c.args.shelf.now) (option_copied c.args.inputs) in
+    let world : World = world_of (contents_of (g.S.Shelf.model c.args.shelf.now)).texts (option_copied c.args.inputs) in
     let names : WebNames = merge_word_names c.in-Ok.args in
     rw c.in-Ok.ensures.ok (promised_by {Is = IsMergeCourse world (Some names)} (merge_comes world (Some names))
     c.merge_web.ensures)
 
 pub returns-clause-freely : goal.returns-clause-freely
 returns-clause-freely g c = ran_freely merge_acts (one_course
-    (world_of (g.S.Shelf.texts c.args.shelf.now) (option_copied c.args.inputs))
+    (world_of (contents_of (g.S.Shelf.model c.args.shelf.now)).texts (option_copied c.args.inputs))
     (web_names_by (map (λ (word : Bor (List ℕ)). word.now) c.args.words.now))) (returns-clause-promises g c)

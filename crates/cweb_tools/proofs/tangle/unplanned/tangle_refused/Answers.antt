@@ -1,10 +1,10 @@
-use Rattle.cweb_tools.proofs.Common.{List, ℕ, Act, SinkModel, ShelfModel, RunEnds, EndsInLog, at, false, refl, ap, ◌+◌, Err, Ok, items_of}
+use Rattle.cweb_tools.proofs.Common.{List, ℕ, Act, SinkModel, FailedReads, RunEnds, EndsInLog, at, false, refl, ap, ◌+◌, Err, Ok, items_of}
 use Rattle.cweb_tools.proofs.Doing.{ends_on}
 use Rattle.cweb_tools.proofs.DoingFiles.{ends_reported, closing_on, log_halts}
 use Rattle.cweb_tools.proofs.Refusals.{each_some, refusal_said}
 use Rattle.cweb_tools.proofs.tangle.unplanned.tangle_refused.Goals as goal
 
-in_log : {acts : List Act} {expected status : ℕ} {old new : SinkModel} → ((shelf : ShelfModel) (out : SinkModel)
+in_log : {acts : List Act} {expected status : ℕ} {old new : SinkModel} → ((shelf : FailedReads) (out : SinkModel)
     → RunEnds acts expected (at shelf out old) (at shelf out new) status) → EndsInLog acts expected old new status
 in_log ends = ends
 
