@@ -18,19 +18,12 @@ pub record ShelfModel (R : Type 0) : Type 0 where
 abbrev pub Observed : {R : Type 0} → ShelfModel R → (ShelfContents R → Type 0) → Type 0
 Observed {R = R} shelf Says = (seen : ShelfContents R) → shelf.contents ≡ Some seen → Says seen
 
--- This name is blamed too.
-abbrev pub with_blame : {R : Type 0} → List ℕ → ShelfContents R → ShelfContents R
-with_blame name now = record now { blamed = now.blamed ++ name ∷ [] }
-
--- A read fails, and blames this name.
-abbrev pub blaming : {R : Type 0} → List ℕ → ShelfModel R → ShelfModel R
-blaming name shelf = record { failed = shelf.failed + 1; contents = option_map (with_blame name) shelf.contents }
-
--- A read of this reader fails.
+-- A read of this reader fails, which blames its name.
 abbrev pub failed_read : {R : Type 0} → R → ShelfModel R → ShelfModel R
 failed_read {R = R} reader shelf = record {
   failed = shelf.failed + 1;
-  contents = option_map (λ (now : ShelfContents R). with_blame (now.opened_as reader) now) shelf.contents;
+  contents = option_map (λ (now : ShelfContents R).
+      record now { blamed = now.blamed ++ now.opened_as reader ∷ [] }) shelf.contents;
 }
 
 -- A reader that was found has the contents of the name left, and was opened under it. None is returned only where the

@@ -10,7 +10,7 @@ pub record Beside : Type 0 where
   pub draft : Option (List ℕ)
   pub refused : Option Refused
 
--- The bytes written so far, which are those of the draft, and what is beside them. With no draft there are no bytes.
+-- The bytes written so far, which are those of the draft, and what is beside them. Calls leave no bytes without a draft.
 pub record SinkContents : Type 0 where
   pub bytes : List ℕ
   pub beside : Beside
@@ -46,15 +46,14 @@ abbrev pub with_draft : List ℕ → SinkContents → SinkContents
 with_draft name now =
     record { bytes = []; beside = record { files = now.beside.files; draft = Some name; refused = None } }
 
+-- There is no draft, and an earlier one is discarded. `why` is why the last `start_file` was refused, if it was.
+abbrev pub without_file : Option Refused → SinkContents → SinkContents
+without_file why now =
+    record { bytes = []; beside = record { files = now.beside.files; draft = None; refused = why } }
+
 -- The draft is discarded.
 abbrev pub without_draft : SinkContents → SinkContents
-without_draft now =
-    record { bytes = []; beside = record { files = now.beside.files; draft = None; refused = now.beside.refused } }
-
--- A draft was refused for this reason, and an earlier one is discarded.
-abbrev pub with_refusal : Refused → SinkContents → SinkContents
-with_refusal why now =
-    record { bytes = []; beside = record { files = now.beside.files; draft = None; refused = Some why } }
+without_draft now = without_file now.beside.refused now
 
 -- The draft becomes a file.
 abbrev pub committed : SinkContents → SinkContents

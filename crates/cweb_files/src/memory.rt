@@ -3,7 +3,7 @@ ghost use Rattle.std.specs.Prelude.{◌≡◌, ◌≤◌, ◌+◌, ◌^◌, ◌<
 ghost use Rattle.std.specs.Prelude.{Some, vec_len, vec_capacity, string_bytes, IfOk, IfSome, OnOk};
 ghost use Rattle.std.specs.Prelude.{OnErr, IsOk, None, if◌then◌else◌};
 ghost use Rattle.std.specs.Str.{bytes_eq};
-ghost use Rattle.cweb_files.specs.Bins.{CountsFailure};
+ghost use Rattle.cweb_files.specs.surface.Writes.{CountsFailure};
 
 use crate::{Shelf, ShelfFault, Sink, SinkFault};
 use std::alloc::{AllocError, Global};

@@ -6,9 +6,9 @@ use Rattle.std.proofs.lemmas.Option.{same_Some}
 use Rattle.cweb_files.specs.declared.place.FileId.{FileId}
 use Rattle.cweb_input.specs.surface.ReaderNames.{AreReadersNamed, IsReaderNamed}
 use Rattle.cweb_input.specs.inner.ReaderNames.{KeepsReaderName, KeepsReaderNames}
-use Rattle.cweb_input.specs.surface.ReaderNames.{shelf_after}
+use Rattle.cweb_input.specs.surface.ReaderNames.{blaming, shelf_after}
 use Rattle.cweb_input.specs.inner.Source.{after_reading}
-use Rattle.cweb_files.specs.Shelves.{Observed, ShelfContents, ShelfModel, blaming, failed_read, with_blame}
+use Rattle.cweb_files.specs.Shelves.{Observed, ShelfContents, ShelfModel, failed_read}
 use Rattle.cweb_input.specs.inner.OpenSources.{files_up_to, stop_for, maximum_of}
 use Rattle.cweb_input.specs.surface.OpenSources.{number_or_zero}
 use Rattle.cweb_input.specs.declared.source.LineFault.{LineFault}
@@ -63,10 +63,11 @@ module _ {R : Type 0} (shelf : ShelfModel R) (reader : R) where
   blames_as name same = ap (λ c. record { failed = shelf.failed + 1; contents = c }) (by shelf.contents refl)
     where
       by : (contents : Option (ShelfContents R)) → shelf.contents ≡ contents
-          → option_map (λ (now : ShelfContents R). with_blame (now.opened_as reader) now) contents
-          ≡ option_map (with_blame name) contents
+          → option_map (λ (now : ShelfContents R).
+          record now { blamed = now.blamed ++ now.opened_as reader ∷ [] }) contents
+          ≡ option_map (λ (now : ShelfContents R). record now { blamed = now.blamed ++ name ∷ [] }) contents
       by None is = refl
-      by (Some seen) is = ap (λ (n : List ℕ). Some (with_blame n seen)) (same seen is)
+      by (Some seen) is = ap (λ (n : List ℕ). Some (record seen { blamed = seen.blamed ++ n ∷ [] })) (same seen is)
 
   pub blames_known : (seen : ShelfContents R) → shelf.contents ≡ Some seen → (name : List ℕ)
       → seen.opened_as reader ≡ name → failed_read reader shelf ≡ blaming name shelf

@@ -4,6 +4,7 @@ pub mod Merge
 pub mod surface
 pub mod laws
 pub mod inner
+pub use Rattle.cweb_files.specs.Shelves
 pub use Rattle.cweb_input.specs.surface.Counters
 pub use Rattle.cweb_input.specs.Include
 pub use Rattle.cweb_input.specs.Lines

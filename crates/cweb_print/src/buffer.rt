@@ -1,7 +1,7 @@
 // The output buffer in front of a sink.
 ghost use Rattle.std.specs.Prelude.{◌≡◌, ◌≤◌, ◌<◌, ◌+◌, ◌^◌, ◌++◌, [], length, take, drop, IfOk};
 ghost use Rattle.std.specs.Prelude.{IfErr, IsOk, OnErr, OnOk};
-ghost use Rattle.cweb_files.specs.Bins.{CountsFailure};
+ghost use Rattle.cweb_files.specs.surface.Writes.{CountsFailure};
 ghost use Rattle.cweb_files.specs.Sinks.{failing, with_printed, written};
 ghost use Rattle.cweb_print.specs.inner.Flushing.{FlushesPrefix};
 

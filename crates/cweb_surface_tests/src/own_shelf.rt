@@ -1,5 +1,5 @@
 // A shelf of a client's own.
-ghost use Rattle.std.specs.Prelude.{◌≡◌, ◌≤◌, ◌+◌, [], true, drop, if◌then◌else◌, string_bytes, Some, None};
+ghost use Rattle.std.specs.Prelude.{◌≡◌, ◌≤◌, ◌+◌, [], drop, if◌then◌else◌, string_bytes, Some, None};
 ghost use Rattle.std.specs.Str.{bytes_eq};
 
 use cweb_lines::{Shelf, ShelfFault};
@@ -31,18 +31,16 @@ impl OneShelf {
 impl Shelf for OneShelf {
     type R = OneReader;
 
-    ghost tells = { λ _. true };
-
-    ghost texts = { λ shelf other.
-        if bytes_eq (string_bytes shelf.name) other then Some shelf.text.items else None };
-
-    ghost left = { λ shelf reader. drop reader.at shelf.text.items };
-
-    ghost failed = { λ _. 0 };
-
-    ghost opened_as = { λ shelf _. string_bytes shelf.name };
-
-    ghost blamed = { λ _. [] };
+    ghost model = { λ shelf. record {
+        failed = 0;
+        contents = Some (record {
+            texts = λ other.
+                if bytes_eq (string_bytes shelf.name) other then Some shelf.text.items else None;
+            left = λ reader. drop reader.at shelf.text.items;
+            opened_as = λ _. string_bytes shelf.name;
+            blamed = [];
+        });
+    } };
 
     fn fetch(&mut self, name: &str) -> Result<Option<OneReader>, AllocError> {
         if self.name.as_str() == name {

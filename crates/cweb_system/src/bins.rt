@@ -29,7 +29,7 @@ impl<F: FileSystem + Drop> Folder<F> {
     ghost use Rattle.cweb_system.specs.Bins.{folder_contents, folder_model};
     ghost use Rattle.cweb_system.specs.inner.FolderCalls.{KeepsFolder, UsesDraft};
     ghost use Rattle.cweb_files.specs.Bins.{refusal, refused};
-    ghost use Rattle.cweb_files.specs.Sinks.{committed, with_draft, with_printed, with_refusal};
+    ghost use Rattle.cweb_files.specs.Sinks.{committed, with_draft, with_printed, without_file};
     ghost use Rattle.cweb_files.specs.Sinks.{without_draft};
 
     /// Begins an empty draft and discards an open one.
@@ -44,7 +44,7 @@ impl<F: FileSystem + Drop> Folder<F> {
             ≡ with_draft name.now (folder_contents F.FileSystem self.old)) }
         ensures err { IsTrue (F.disk self.old.fs).tells → IfErr result (λ fault.
             folder_contents F.FileSystem self.new
-            ≡ with_refusal (refusal fault) (folder_contents F.FileSystem self.old)) }
+            ≡ without_file (Some (refusal fault)) (folder_contents F.FileSystem self.old)) }
         ensures cause { self.old.draft ≡ None →
             IfCanBegin self.old.files name.now (F.disk self.old.fs) (IfErr result
             (λ fault. fault ≡ BinFault.Device → IsTrue (F.disk self.new.fs).failed)) }

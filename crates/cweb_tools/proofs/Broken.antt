@@ -131,8 +131,8 @@ module _ {act : Act} {stop : Stop} {about : List ℕ} (of_output : IsOfOutput ac
 
 print_broken : {act : Act} {text about : List ℕ} {old new : Devices} → IsOfOutput act
     → FailsOutput text about old new → Broken act WriteFault about old new
-print_broken {old = old} of_output fails = output_broken of_output (with_printed fails.prefix) (λ now. refl)
-    (draft_stays fails.prefix old.out) refl fails.is refl
+print_broken {old = old} of_output fails = output_broken of_output (with_printed fails.out.prefix) (λ now. refl)
+    (draft_stays fails.out.prefix old.out) refl (fails.others ∙ (λ i. record old { out = fails.out.is i })) refl
 
 pub broken : (act : Act) (stop : Stop) (about : List ℕ) (old new : Devices)
     → Breaks act (ending stop about) old new → Broken act stop about old new

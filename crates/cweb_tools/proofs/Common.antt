@@ -23,13 +23,13 @@ pub use Rattle.std.specs.Str.{bytes_eq}
 pub use Rattle.cweb_files.specs.Files.{File, no_device, no_memory}
 pub use Rattle.cweb_files.specs.Sinks.{FailsWithin, SinkContents, SinkModel, appended, changed}
 pub use Rattle.cweb_files.specs.surface.Writes.{WritesPrefix, Wrote}
-pub use Rattle.cweb_files.specs.Sinks.{committed, failing, with_draft, with_printed, without_draft, written}
+pub use Rattle.cweb_files.specs.Sinks.{committed, failing, with_draft, with_printed, without_draft, without_file, written}
 pub use Rattle.cweb_files.specs.declared.device.SinkFault.{SinkFault}
 pub use Rattle.cweb_files.specs.declared.place.FileId.{FileId}
 pub use Rattle.cweb_files.specs.declared.place.Place.{Place}
 pub use Rattle.cweb_input.specs.Include.{names_found, contents_found, World, Found, web_at, change_at}
 pub use Rattle.cweb_input.specs.Lines.{Line, SourceLine}
-pub use Rattle.cweb_input.specs.surface.OpenSources.{read_failures_of, files_named}
+pub use Rattle.cweb_input.specs.surface.OpenSources.{files_named}
 pub use Rattle.cweb_input.specs.declared.fault.SourceFault.{SourceFault}
 pub use Rattle.cweb_input.specs.declared.fault.SourceKind.TheVariants.{Unequal, NotThere}
 pub use Rattle.cweb_input.specs.declared.files.FileNames.{FileNames}
@@ -105,7 +105,7 @@ pub use Rattle.cweb_store.specs.declared.parts.PartKind.{PartKind}
 pub use Rattle.cweb_store.specs.surface.Parts.{numbers_from, numbers_where}
 pub use Rattle.cweb_texts.specs.Edges.{is_operator, last_is}
 pub use Rattle.cweb_tools.specs.Acts.{Act, judges, says, opens, reads, merges, plans, reserves, writes, prints}
-pub use Rattle.cweb_tools.specs.Acts.{after_act, blaming, with_file, without_file}
+pub use Rattle.cweb_tools.specs.Acts.{after_act, blaming, with_file}
 pub use Rattle.cweb_tools.specs.Acts.{PerformsActs, Breaks, Ending, ending, RunEnds, completes, stops, LogsEnding}
 pub use Rattle.cweb_tools.specs.Acts.{LogsStop, IsOfFile, FailsReading, FailsLog, FailsOutput}
 pub use Rattle.cweb_tools.specs.Acts.{logged_items, acts_status, FollowsActs}
@@ -134,7 +134,7 @@ pub use Rattle.cweb_tools.specs.inner.Scanning.{EndsAs}
 pub use Rattle.cweb_tools.specs.inner.Tangle.{tangle_course, LaterActs, opening_acts, tangle_later}
 pub use Rattle.cweb_tools.specs.inner.Tangle.{web_status, status_by}
 pub use Rattle.cweb_tools.specs.inner.Web.{refusal_in, files_of, faults_of}
-pub use Rattle.cweb_tools.specs.laws.Leaves.{HasReadAll, LeavesFiles, bins_blame, tangle_files, tangle_status}
+pub use Rattle.cweb_tools.specs.laws.Leaves.{HasReadAll, LeavesFiles, bins_blame, read_failures_of, tangle_files, tangle_status}
 pub use Rattle.cweb_tools.specs.laws.LeftDevices.{draft_in, last_refusal}
-pub use Rattle.cweb_tools.specs.laws.RunEffects.{LeavesDevices, PrintsActs, DoesAll, IsEnded, Prints}
+pub use Rattle.cweb_tools.specs.laws.RunEffects.{LeavesDevices, PrintsActs, DoesAll, IsEnded}
 pub use Rattle.cweb_tools.specs.laws.RunEffects.{IsStopped, RisesOnce, TangleFailsOnce, TangleReportsFaults}

@@ -1,5 +1,7 @@
 -- The ends of a run of `wmerge` keep its promises.
-use Rattle.cweb_tools.proofs.Common.{◌≤◌, ◌≡◌, inl, inr, ℕ, ◌+◌, List, [], ◌∷◌, ◌++◌, refl, sym, ◌∙◌, ap, append-nil, append_assoc, arith, subst, Option, Some, IsSome, World, read_failures_of, bins_blame, Event, emitted_lines, written_lines, Stop, ReadFault, OutNotOpened, WriteFault, WebNames, Course, IsMergeCourse, merge_acts, merge_devices, PrintsActs, Prints, ActsKeepLimits, Act, reads, writes, merges, prints, after_act, changed, with_printed, ending, Breaks, FailsOutput, Devices, SinkModel, PerformsActs, RunEnds, completes, stops, printed_bytes, written_files, RisesOnce}
+use Rattle.cweb_tools.proofs.Common.{◌≤◌, ◌≡◌, inl, inr, ℕ, ◌+◌, List, [], ◌∷◌, ◌++◌, refl, sym, ◌∙◌, ap, append-nil, append_assoc, arith, subst, Option, Some, IsSome, World, read_failures_of, bins_blame, Event, emitted_lines, written_lines, Stop, ReadFault, OutNotOpened, WriteFault, WebNames, Course, IsMergeCourse, merge_acts, merge_devices, PrintsActs, ActsKeepLimits, Act, reads, writes, merges, prints, after_act, changed, with_printed, ending, Breaks, Devices, SinkModel, PerformsActs, RunEnds, completes, stops, printed_bytes, written_files, RisesOnce}
+use Rattle.cweb_files.specs.Sinks.{FailsWithin}
+use Rattle.cweb_files.specs.surface.Writes.{WritesPrefix}
 use Rattle.cweb_lines.proofs.EmittedLinesAddUp.{emitted-append}
 use Rattle.cweb_lines.proofs.WrittenLinesAddUp.{text_of-append}
 use Rattle.cweb_tools.specs.laws.RunEffects.{EveryMergeLeavesOutput}
@@ -18,73 +20,65 @@ pub one_course : (world : World) (args : Option WebNames) (one other : Course) �
     → IsMergeCourse world args other → one ≡ other
 one_course world args one other is too = merge_only world args one is ∙ sym (merge_only world args other too)
 
--- A prefix of a text was printed.
-record Printed (text : List ℕ) (old new : SinkModel) : Type 0 where
-  prefix : List ℕ
-  rest : List ℕ
-  whole : text ≡ prefix ++ rest
-  printed : Prints prefix old new
-
-nothing : {old new : SinkModel} (text : List ℕ) → new ≡ old → Printed text old new
+nothing : {old new : SinkModel} (text : List ℕ) → new ≡ old → WritesPrefix text old new
 nothing {old} text same = record {
   prefix = [];
   rest = text;
   whole = refl;
-  printed = ap (λ (out : SinkModel). out.contents) (same ∙ written_none old);
+  is = ap (λ (out : SinkModel). out.contents) (same ∙ written_none old);
 }
 
 -- More would have been printed after a prefix.
-more_after : {text : List ℕ} (more : List ℕ) {old new : SinkModel} → Printed text old new
-    → Printed (text ++ more) old new
+more_after : {text : List ℕ} (more : List ℕ) {old new : SinkModel} → WritesPrefix text old new
+    → WritesPrefix (text ++ more) old new
 more_after more wrote = record {
   prefix = wrote.prefix;
   rest = wrote.rest ++ more;
   whole = ap (λ (t : List ℕ). t ++ more) wrote.whole ∙ append_assoc wrote.prefix wrote.rest more;
-  printed = wrote.printed;
+  is = wrote.is;
 }
 
 -- This was printed before a prefix.
 more_before : (text : List ℕ) {more : List ℕ} (old : SinkModel) {new : SinkModel}
-    → Printed more (changed (with_printed text) old) new → Printed (text ++ more) old new
+    → WritesPrefix more (changed (with_printed text) old) new → WritesPrefix (text ++ more) old new
 more_before text old wrote = record {
   prefix = text ++ wrote.prefix;
   rest = wrote.rest;
   whole = ap (λ (t : List ℕ). text ++ t) wrote.whole ∙ sym (append_assoc text wrote.prefix wrote.rest);
-  printed = wrote.printed ∙ ap (λ (out : SinkModel). out.contents) (written_on text wrote.prefix old);
+  is = wrote.is ∙ ap (λ (out : SinkModel). out.contents) (written_on text wrote.prefix old);
 }
 
-printing_failed : {text about : List ℕ} {old new : Devices} → FailsOutput text about old new
-    → Printed text old.out new.out
+printing_failed : {text : List ℕ} {old new : SinkModel} → FailsWithin text old new → WritesPrefix text old new
 printing_failed fails = record {
   prefix = fails.prefix;
   rest = fails.rest;
   whole = fails.whole;
-  printed = ap (λ (d : Devices). d.out.contents) fails.is;
+  is = ap (λ (out : SinkModel). out.contents) fails.is;
 }
 
 printed_at : (act : Act) (acts : List Act) (stop : Stop) (about : List ℕ) (old new : Devices)
     → written_files (act ∷ acts) ≡ [] → Breaks act (ending stop about) old new
-    → Printed (printed_bytes (act ∷ acts)) old.out new.out
+    → WritesPrefix (printed_bytes (act ∷ acts)) old.out new.out
 printed_at (writes name text) acts stop about old new none broke = absurd (cc)
 printed_at (merges names events) acts WriteFault about old new none broke =
-    more_after (printed_bytes acts) (printing_failed broke)
+    more_after (printed_bytes acts) (printing_failed broke.out)
 printed_at (merges names events) acts stop about old new none broke = more_after (printed_bytes acts) (record {
   prefix = written_lines (emitted_lines broke.earlier);
   rest = written_lines (emitted_lines broke.later);
   whole = ap (λ (es : List Event). written_lines (emitted_lines es)) broke.whole
       ∙ ap written_lines (emitted-append broke.earlier broke.later)
       ∙ text_of-append (emitted_lines broke.earlier) (emitted_lines broke.later);
-  printed = ap (λ (out : SinkModel). out.contents) ((reading_broken (reads names events) names broke.earlier broke.later
+  is = ap (λ (out : SinkModel). out.contents) ((reading_broken (reads names events) names broke.earlier broke.later
       stop about (after_act (merges names broke.earlier) old) new broke.fails).out (λ of_output. of_output));
 })
 printed_at (prints text) acts WriteFault about old new none broke =
-    more_after (printed_bytes acts) (printing_failed broke)
+    more_after (printed_bytes acts) (printing_failed broke.out)
 printed_at (prints text) acts stop about old new none broke = absurd broke
 printed_at act acts stop about old new none broke =
     nothing (printed_bytes (act ∷ acts)) ((broken act stop about old new broke).out (λ of_output. of_output))
 
 printed_until : (acts : List Act) (stop : Stop) (about : List ℕ) (old new : Devices) → written_files acts ≡ []
-    → PerformsActs acts (Some (ending stop about)) old new → Printed (printed_bytes acts) old.out new.out
+    → PerformsActs acts (Some (ending stop about)) old new → WritesPrefix (printed_bytes acts) old.out new.out
 printed_until [] stop about old new none run = absurd run
 printed_until (act ∷ acts) stop about old new none (inr here) = printed_at act acts stop about old new none here
 printed_until (writes name text ∷ acts) stop about old new none (inl run) = absurd (cc)
@@ -103,19 +97,18 @@ printed_by : {acts : List Act} {expected : ℕ} {old new : Devices} {status : �
 printed_by {acts} {old = old} {new = new} none (completes run answered) =
     let all = ap (λ (out : SinkModel). out.contents) (printed_all acts old new none run) in
     record {
-      prefix = printed_bytes acts;
-      rest = [];
-      whole = sym (append-nil _);
-      printed = all;
+      some = record { prefix = printed_bytes acts; rest = []; whole = sym (append-nil _); is = all };
       all = λ zero. all;
     }
 printed_by {acts} {old = old} {status = status} none (stops (ending stop about) then run logs answered) =
     let part = printed_until acts stop about old then none run in
     record {
-      prefix = part.prefix;
-      rest = part.rest;
-      whole = part.whole;
-      printed = ap (λ (d : Devices). d.out.contents) logs.others ∙ part.printed;
+      some = record {
+        prefix = part.prefix;
+        rest = part.rest;
+        whole = part.whole;
+        is = ap (λ (d : Devices). d.out.contents) logs.others ∙ part.is;
+      };
       all = not_zero status answered;
     }
 

@@ -101,7 +101,7 @@ module _ (files opened rest : List (List ℕ)) (names : files ≡ opened ++ rest
       → (now : Devices) → Breaks (merges files events) (ending WriteFault (subject opened WriteFault)) now
       (left_after WriteFault opened prefix now)
   write_broke prefix more whole now =
-      record { about_is = refl; prefix = prefix; rest = more; whole = whole; is = refl }
+      record { about_is = refl; out = record { prefix = prefix; rest = more; whole = whole; is = refl }; others = refl }
 
   -- An observable shelf: all lines before the stop were printed.
   pub prints_so : (stop : Stop) {first : List (List ℕ)} {old : SoFar} (new : SoFar) (Wrote : List ℕ → Type 0)

@@ -15,13 +15,7 @@ printed_whole text old is = λ shelf log. record { runs = inl (tt, ap (λ out. a
 pub printed_prefix : {text : List ℕ} {old new : SinkModel} → FailsWithin text old new
     → DoesInOut (prints text ∷ []) (Some (ending WriteFault (codes "standard output"))) old new
 printed_prefix fails = λ shelf log. record {
-  runs = inr (record {
-    about_is = refl;
-    prefix = fails.prefix;
-    rest = fails.rest;
-    whole = fails.whole;
-    is = ap (λ out. at shelf out log) fails.is;
-  });
+  runs = inr (record { about_is = refl; out = fails; others = refl });
 }
 
 -- The targets are the names of the outputs.

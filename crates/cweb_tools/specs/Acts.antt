@@ -2,7 +2,7 @@
 use Rattle.std.specs.Prelude.{◌≡◌, ◌<◌, ◌⊎◌, ℕ, ◌+◌, length, List, [], ◌∷◌, ◌++◌, Option, Some, None, IsSome}
 use Rattle.std.specs.Prelude.{codes, if◌then◌else◌, option_map}
 use Rattle.std.specs.List.{list_any}
-use Rattle.cweb_files.specs.Files.{Refused, no_device, no_memory, put_file}
+use Rattle.cweb_files.specs.Files.{no_device, no_memory}
 use Rattle.cweb_lines.specs.Events.{Event, IsWithinLimits, emitted_lines, taken_lines, written_lines, BreaksLimit}
 use Rattle.cweb_input.specs.declared.stop.Stop.{Stop}
 use Rattle.cweb_input.specs.declared.stop.Stop.TheVariants.{ReadFault, LineTooLong, TooMuchText, Memory, OutNotOpened}
@@ -10,8 +10,8 @@ use Rattle.cweb_input.specs.declared.stop.Stop.TheVariants.{WriteFault, LogFault
 use Rattle.cweb_log.specs.Items.{LogItem, is_fault, line}
 use Rattle.cweb_log.specs.Log.{file_name_at, stop_line}
 use Rattle.cweb_log.specs.DeviceModels.{Devices, Logs, FailedReads}
-use Rattle.cweb_files.specs.Sinks.{FailsWithin, SinkContents, SinkModel, changed, failing, with_printed, written}
-use Rattle.cweb_files.specs.Sinks.{FailsWithin, SinkContents, SinkModel, changed, failing, with_printed, written}
+use Rattle.cweb_files.specs.Sinks.{FailsWithin, SinkContents, SinkModel, changed, committed, failing, with_draft}
+use Rattle.cweb_files.specs.Sinks.{with_printed, without_file, written}
 
 -- An act of a run.
 pub data Act : Type 0 where
@@ -34,21 +34,9 @@ pub data Act : Type 0 where
   -- These bytes are printed to standard output.
   prints : List ℕ → Act
 
--- A file is committed. Then there is no draft.
+-- A draft of this name is begun, these bytes are written, and it is committed.
 abbrev pub with_file : List ℕ → List ℕ → SinkContents → SinkContents
-with_file name text now = record {
-  bytes = [];
-  beside = record {
-    files = put_file now.beside.files (record { name = name; bytes = text });
-    draft = None;
-    refused = None;
-  };
-}
-
--- A file is not written. Then there is no draft. If it couldn't be begun, the bins have the reason.
-abbrev pub without_file : Option Refused → SinkContents → SinkContents
-without_file why now =
-    record { bytes = []; beside = record { files = now.beside.files; draft = None; refused = why } }
+with_file name text now = committed (with_printed text (with_draft name now))
 
 -- A read of the file of this name fails.
 abbrev pub blaming : List ℕ → FailedReads → FailedReads
@@ -84,10 +72,8 @@ pub record FailsLog (text : List ℕ) (old new : Devices) : Type 0 where
 -- Standard output failed, and a prefix of the bytes was printed.
 pub record FailsOutput (text about : List ℕ) (old new : Devices) : Type 0 where
   pub about_is : about ≡ codes "standard output"
-  pub prefix : List ℕ
-  pub rest : List ℕ
-  pub whole : text ≡ prefix ++ rest
-  pub is : new ≡ record old { out = failing (with_printed prefix) old.out }
+  pub out : FailsWithin text old.out new.out
+  pub others : new ≡ record old { out = new.out }
 
 -- A stop of reading is about one of the files that are read, and its line ends in that file's name.
 abbrev pub IsOfFile : List (List ℕ) → ℕ → List ℕ → Type 0

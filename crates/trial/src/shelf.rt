@@ -1,5 +1,5 @@
 // A shelf in memory whose n-th read fails.
-ghost use Rattle.std.specs.Prelude.{◌≡◌, [], None, false};
+ghost use Rattle.std.specs.Prelude.{◌≡◌, None};
 
 use cweb_files::{MemoryReader, MemoryShelf, Shelf, ShelfFault};
 use std::alloc::{AllocError, Global};
@@ -60,13 +60,7 @@ impl Shelf for TrialShelf {
     // the number of files opened before it, and the reader
     type R = (u32, MemoryReader);
 
-    ghost tells = { λ _. false };
-
-    ghost texts = { λ _ _. None };
-
-    ghost left = { λ _ _. [] };
-
-    ghost failed = { λ shelf. shelf.failed };
+    ghost model = { λ shelf. record { failed = shelf.failed; contents = None } };
 
     fn fetch(&mut self, name: &str) -> Result<Option<(u32, MemoryReader)>, AllocError> {
         let Some(reader) = self.shelf.fetch(name)? else {

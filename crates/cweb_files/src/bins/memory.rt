@@ -4,7 +4,7 @@ ghost use Rattle.std.specs.Prelude.{filter, None, vec_len, vec_capacity, string_
 ghost use Rattle.std.specs.Prelude.{IsSome, IsOk, IfOk, IfErr, OnOk, OnErr};
 ghost use Rattle.std.specs.Str.{bytes_eq};
 ghost use Rattle.std.specs.Option.{is_some};
-ghost use Rattle.cweb_files.specs.Bins.{CountsFailure};
+ghost use Rattle.cweb_files.specs.surface.Writes.{CountsFailure};
 
 use crate::bins::{BinFault, Bins};
 use crate::device::{Sink, SinkFault};

@@ -62,18 +62,8 @@ things_over left low (suc n) texts rest = things_at left (slice_index_or texts (
 abbrev pub things_above : {R : Type 0} → (R → List ℕ) → ℕ → Stack R → List Thing → List Thing
 things_above left low stack rest = things_over left low (stack.depth - low) stack.texts rest
 
--- By how much a stop raises the failure count of a shelf.
-abbrev pub read_failures_of : Stop → ℕ
-read_failures_of (ReadFault file) = 1
-read_failures_of _ = 0
-
 -- The least number of files that a stop's `FileId` implies.
 abbrev pub files_named : Stop → ℕ
 files_named (ReadFault file) = file.0 + 1
 files_named (LineTooLong file) = file.0 + 1
 files_named _ = 0
-
--- Only a failed read raises the failure count.
-abbrev pub CountsReadStop : {A : Type 0} → ℕ → ℕ → Result A Stop → Type 0
-CountsReadStop before now (Ok x) = now ≡ before
-CountsReadStop before now (Err stop) = now ≡ before + read_failures_of stop

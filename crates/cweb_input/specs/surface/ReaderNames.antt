@@ -1,6 +1,6 @@
 -- Under which names readers were opened, and which of them is blamed.
-use Rattle.std.specs.Prelude.{◌≡◌, ℕ, List, [], Option, None, Some, Result, Ok, Err, slice_index_or}
-use Rattle.cweb_files.specs.Shelves.{ShelfModel, blaming}
+use Rattle.std.specs.Prelude.{◌≡◌, ◌+◌, ◌++◌, ℕ, List, [], ◌∷◌, Option, None, Some, Result, Ok, Err, slice_index_or, option_map}
+use Rattle.cweb_files.specs.Shelves.{ShelfContents, ShelfModel}
 use Rattle.cweb_files.specs.declared.place.FileId.{FileId}
 use Rattle.cweb_input.specs.declared.stop.Stop.{Stop}
 use Rattle.cweb_input.specs.declared.stop.Stop.TheVariants.{ReadFault}
@@ -17,6 +17,13 @@ IsReaderNamed opened_as names (Some text) = opened_as text.source.reader.value �
 
 abbrev pub AreReadersNamed : {R : Type 0} → (R → List ℕ) → List (List ℕ) → List (Option (OpenSource R)) → Type 0
 AreReadersNamed opened_as names texts = (place : ℕ) → IsReaderNamed opened_as names (slice_index_or texts place None)
+
+-- A read fails, and blames this name.
+abbrev pub blaming : {R : Type 0} → List ℕ → ShelfModel R → ShelfModel R
+blaming {R = R} name shelf = record {
+  failed = shelf.failed + 1;
+  contents = option_map (λ (now : ShelfContents R). record now { blamed = now.blamed ++ name ∷ [] }) shelf.contents;
+}
 
 -- A shelf after a stop of reading, which for a read fault blames its file.
 abbrev pub shelf_after : {R : Type 0} → (FileId → List ℕ) → Stop → ShelfModel R → ShelfModel R

@@ -1,5 +1,5 @@
 // Files that never end. Their shelves aren't observable.
-ghost use Rattle.std.specs.Prelude.{false, [], None};
+ghost use Rattle.std.specs.Prelude.{None};
 
 use super::*;
 
@@ -13,13 +13,7 @@ impl Shelf for Endless {
     // the number of bytes of the current line that were read
     type R = usize;
 
-    ghost tells = { λ _. false };
-
-    ghost texts = { λ _ _. None };
-
-    ghost left = { λ _ _. [] };
-
-    ghost failed = { λ _. 0 };
+    ghost model = { λ _. record { failed = 0; contents = None } };
 
     fn fetch(&mut self, _: &str) -> Result<Option<usize>, AllocError> {
         Ok(Some(0))
@@ -54,13 +48,7 @@ impl Shelf for EndlessChange {
     // a reader, and for the change file the number of bytes of the current line after its end
     type R = (MemoryReader, Option<usize>);
 
-    ghost tells = { λ _. false };
-
-    ghost texts = { λ _ _. None };
-
-    ghost left = { λ _ _. [] };
-
-    ghost failed = { λ _. 0 };
+    ghost model = { λ _. record { failed = 0; contents = None } };
 
     fn fetch(&mut self, name: &str) -> Result<Option<(MemoryReader, Option<usize>)>, AllocError> {
         let Some(reader) = self.shelf.fetch(name)? else {

@@ -4,7 +4,6 @@ use Rattle.cweb_input.specs.Lines.{Line}
 use Rattle.cweb_lines.specs.Events.{Event, emitted_lines}
 use Rattle.cweb_lines.specs.surface.MergeProgress.{SoFar, EmitsLines, StopsAfterLines, ReportsPrefix}
 use Rattle.cweb_input.specs.surface.OpenSources.{StopsFor, StopsReading}
-use Rattle.cweb_input.specs.surface.OpenSources.{read_failures_of}
 use Rattle.cweb_input.specs.declared.limits.TheConstants.{LINES, BYTES}
 use Rattle.cweb_input.specs.declared.stop.Stop.{Stop}
 use Rattle.cweb_store.specs.Parts.{Token, Mark, all_tokens}

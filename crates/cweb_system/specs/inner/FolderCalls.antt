@@ -1,6 +1,6 @@
 -- What calls of bins over a file system promise.
 use Rattle.std.specs.Prelude.{◌≡◌, IsSome, IsTrue, OnOk, Result}
-use Rattle.cweb_files.specs.Bins.{CountsFailure}
+use Rattle.cweb_files.specs.surface.Writes.{CountsFailure}
 use Rattle.cweb_system.specs.declared.bins.Folder.{Folder}
 use Rattle.cweb_system.specs.declared.file_system.FileSystem.{Ghosts as FileSystem}
 use Rattle.cweb_system.specs.Bins.{folder_beside}

@@ -2,7 +2,7 @@
 use Rattle.std.specs.Prelude.{fold, ◌≡◌, ℕ, List, ◌++◌, option_map}
 use Rattle.cweb_files.specs.Files.{put_file, File}
 use Rattle.cweb_input.specs.declared.stop.Stop.{Stop}
-use Rattle.cweb_input.specs.declared.stop.Stop.TheVariants.{OutNotOpened, WriteFault}
+use Rattle.cweb_input.specs.declared.stop.Stop.TheVariants.{OutNotOpened, ReadFault, WriteFault}
 use Rattle.cweb_log.specs.DeviceModels.{Devices}
 use Rattle.cweb_files.specs.Sinks.{SinkModel}
 use Rattle.cweb_log.specs.declared.shown.Shown.{Shown}
@@ -29,6 +29,11 @@ pub record LeavesFiles (expected : List File) (old new : SinkModel) : Type 0 whe
 pub record HasReadAll (acts : List Act) (before after : Devices) : Type 0 where
   pub shelf : after.shelf.failed ≡ before.shelf.failed
   pub within : ActsKeepLimits acts
+
+-- The increase of the shelf's failure count at a stop.
+abbrev pub read_failures_of : Stop → ℕ
+read_failures_of (ReadFault file) = 1
+read_failures_of _ = 0
 
 -- The increase of the bins' failure count at a stop.
 abbrev pub bins_blame : Stop → ℕ

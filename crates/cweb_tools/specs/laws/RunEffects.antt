@@ -3,7 +3,6 @@ use Rattle.std.specs.Prelude.{fold, ◌≡◌, ◌≢◌, ◌≤◌, ◌⊎◌, 
 use Rattle.std.specs.List.{flat_map}
 use Rattle.cweb_files.specs.Files.{File, put_file}
 use Rattle.cweb_input.specs.Include.{World}
-use Rattle.cweb_input.specs.surface.OpenSources.{read_failures_of}
 use Rattle.cweb_input.specs.declared.stop.Stop.{Stop}
 use Rattle.cweb_input.specs.declared.stop.Stop.TheVariants.{LogFault}
 use Rattle.cweb_log.specs.Items.{LogItem, line}
@@ -11,13 +10,14 @@ use Rattle.cweb_log.specs.Log.{stop_line}
 use Rattle.cweb_log.specs.CommandLine.{OptionsModel, WebNames}
 use Rattle.cweb_log.specs.DeviceModels.{Devices, Logs}
 use Rattle.cweb_files.specs.Sinks.{SinkModel, appended}
+use Rattle.cweb_files.specs.surface.Writes.{WritesPrefix}
 use Rattle.cweb_tools.specs.Acts.{Act, logged_items}
 use Rattle.cweb_tools.specs.Course.{Course, IsMergeCourse}
 use Rattle.cweb_tools.specs.Headline.{ActsKeepLimits, files_in, printed_bytes, written_files}
 use Rattle.cweb_tools.specs.MergeActs.{MergePromises, merge_acts, merge_devices}
 use Rattle.cweb_tools.specs.Script.{script}
 use Rattle.cweb_tools.specs.Tangle.{shown_by, TanglePromises}
-use Rattle.cweb_tools.specs.laws.Leaves.{HasReadAll, LeavesFiles, bins_blame, tangle_status}
+use Rattle.cweb_tools.specs.laws.Leaves.{HasReadAll, LeavesFiles, bins_blame, read_failures_of, tangle_status}
 
 -- All acts were done: the files were committed, the items logged, and the status is `expected`.
 pub record DoesAll (acts : List Act) (expected : ℕ) (old new : Devices) (status : ℕ) : Type 0 where
@@ -80,17 +80,10 @@ EveryRunLeavesDevices = (world : World) (args : Option OptionsModel) (before aft
     → LeavesDevices (script (shown_by args) run.course) (tangle_status (shown_by args) run.course) before after
     status
 
--- These bytes were printed.
-abbrev pub Prints : List ℕ → SinkModel → SinkModel → Type 0
-Prints text old new = new.contents ≡ appended text old.contents
-
 -- A prefix of what these acts print was printed, and all of it if the status is 0.
 pub record PrintsActs (acts : List Act) (old new : SinkModel) (status : ℕ) : Type 0 where
-  pub prefix : List ℕ
-  pub rest : List ℕ
-  pub whole : printed_bytes acts ≡ prefix ++ rest
-  pub printed : Prints prefix old new
-  pub all : status ≡ 0 → Prints (printed_bytes acts) old new
+  pub some : WritesPrefix (printed_bytes acts) old new
+  pub all : status ≡ 0 → new.contents ≡ appended (printed_bytes acts) old.contents
 
 -- No device failed more than once, and shelf and output didn't both fail.
 pub record MergeFailsOnce (before after : Devices) : Type 0 where
