@@ -7,7 +7,7 @@ use Rattle.cweb_system.specs.declared.node.Node.{Node}
 use Rattle.cweb_system.specs.declared.run_files.RunFiles.{RunFiles}
 use Rattle.cweb_system.specs.declared.written.WrittenFile.{WrittenFile}
 use Rattle.cweb_system.specs.FileSet.{keys_in}
-use Rattle.cweb_system.specs.Steps.{Disk}
+use Rattle.cweb_system.specs.Steps.{Disk, Seen}
 use Rattle.cweb_system.specs.Tree.{Tree, IsFile, Removes, SetsMode, at}
 use Rattle.cweb_system.specs.inner.Drafts.{Clears, DraftIsThere, IsAlone, LeavesFiles}
 use Rattle.cweb_system.specs.inner.Written.{Leaves}
@@ -16,12 +16,11 @@ use Rattle.cweb_system.proofs.Keys.{key_is, key_self}
 use Rattle.cweb_system.proofs.Steps.{keeps_then, same_at}
 use Rattle.cweb_system.proofs.Views.{leaves_then}
 
-pub leaves_files_then : {files : RunFiles} {a b c : Disk} → LeavesFiles files a b → LeavesFiles files b c
-    → LeavesFiles files a c
-leaves_files_then {files} {a} {b} {c} first then = record {
+pub leaves_files_then : {F : Type 0} {disk : Option (F → Disk)} {files : RunFiles} {a b c : F}
+    → LeavesFiles disk files a b → LeavesFiles disk files b c → LeavesFiles disk files a c
+leaves_files_then {files = files} first then = record {
   decent = keeps_then first.decent then.decent;
-  leaves = λ tells. leaves_then files.written.items a.tree b.tree c.tree (first.leaves tells)
-      (then.leaves (first.decent.tells ∙ tells));
+  leaves = λ some. leaves_then files.written.items _ _ _ (first.leaves some) (then.leaves some);
 }
 
 -- What is cleared is no committed file.
@@ -47,13 +46,14 @@ cleared_leaves ws path old new places clears other = ⊎_elim
         place = same_at (sym places) (string_bytes w.name)
 
 -- A draft's path is cleared of what is no committed file.
-pub clearing : (files : RunFiles) (path : List ℕ) (old new : Disk) → Clears path old new
-    → (IsTrue old.tells → All (λ (w : WrittenFile). IsFile w.key (at old.tree path) → ⊥) files.written.items)
-    → LeavesFiles files old new
+pub clearing : {F : Type 0} {disk : Option (F → Disk)} (files : RunFiles) (path : List ℕ) (old new : F)
+    → Clears disk path old new
+    → Seen disk (λ see. All (λ (w : WrittenFile). IsFile w.key (at (see old).tree path) → ⊥) files.written.items)
+    → LeavesFiles disk files old new
 clearing files path old new clears other = record {
   decent = clears.decent (keys_in files.read);
-  leaves = λ tells. cleared_leaves files.written.items path old.tree new.tree (clears.place tells)
-      (clears.removes tells) (other tells);
+  leaves = λ some.
+      cleared_leaves files.written.items path _ _ (clears.place some) (clears.removes some) (other some);
 }
 
 -- A file keeps its key where permissions are set.

@@ -4,4 +4,5 @@ pub mod Views
 pub mod Files
 pub mod Folders
 pub mod Keys
+pub mod Models
 pub mod Steps

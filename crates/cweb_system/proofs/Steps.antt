@@ -1,6 +1,7 @@
 -- Each call is a decent step.
 use Rattle.std.proofs.Common.{◌≡◌, ◌∙◌, ◌⊎◌, inl, inr, ⊎_elim, ◌∷◌, ◌++◌, [], ℕ, List, Bool, true, false, refl, sym, ap, subst, Option, Some, None, IsTrue}
 use Rattle.std.specs.Prelude.{Result, Ok, Err, OnErr, IfOk, IfSome}
+use Rattle.std.specs.Option.{unwrap_or}
 use Rattle.std.specs.Str.{bytes_eq}
 use Rattle.std.proofs.lemmas.Slice.Eq.{bytes_eq-Decides}
 use Rattle.cweb_system.specs.declared.node.FileFault.{FileFault}
@@ -8,7 +9,7 @@ use Rattle.cweb_system.specs.declared.node.FileKey.{FileKey}
 use Rattle.cweb_system.specs.declared.node.Node.{Node}
 use Rattle.cweb_system.specs.Tree.{Tree, IsFile, bytes_of, Appends, Creates, MayCreate, Removes, Renames, SetsMode}
 use Rattle.cweb_system.specs.inner.Drafts.{IsAlone, KeepsDecent}
-use Rattle.cweb_system.specs.Steps.{AreDecent, Arrives, Changes, Disk, IsDecent, IsDraftPlace, NotesFailure, Stays, TakesStep}
+use Rattle.cweb_system.specs.Steps.{AreDecent, Arrives, Changes, Disk, IsDecent, IsDraftPlace, NotesFailure, Seen, Stays, TakesStep, nothing_seen}
 use Rattle.cweb_system.specs.inner.Drafts.{IsDraftAlone, IsUnread}
 
 -- Equal functions are equal at each argument.
@@ -46,48 +47,45 @@ noted was now (Ok x) same is = same ∙ is
 noted was now (Err e) is' is = is'
 
 -- A call that changes the tree decently.
-pub keeps : {A : Type 0} (read : List FileKey) (change : A → Tree → Tree → Type 0) {old new : Disk}
-    {r : Result A FileFault} → Changes change old new r
-    → (IsTrue old.tells → (x : A) → change x old.tree new.tree → IsDecent read old.tree new.tree)
-    → KeepsDecent read old new
-keeps read change {old} {new} {r} c then = record {
-  tells = c.tells;
-  steps = λ tells. stepping read old new (c.step tells)
-      (by_result read change old.tree new.tree r (c.ok tells) (c.err tells) (then tells));
-  failed = λ tells. noted old.failed new.failed r (c.failed tells);
-}
+pub keeps : {F A : Type 0} {disk : Option (F → Disk)} (read : List FileKey) (change : A → Tree → Tree → Type 0)
+    {old new : F} {r : Result A FileFault} → Changes disk change old new r
+    → Seen disk (λ see. (x : A) → change x (see old).tree (see new).tree → IsDecent read (see old).tree (see new).tree)
+    → KeepsDecent disk read old new
+keeps {F = F} {disk = disk} read change {old} {new} {r} c then =
+    let see : F → Disk = unwrap_or disk nothing_seen in
+    record {
+      steps = λ some. stepping read (see old) (see new) (c.step some)
+          (by_result read change (see old).tree (see new).tree r (c.ok some) (c.err some) (then some));
+      failed = λ some. noted (see old).failed (see new).failed r (c.failed some);
+    }
 
 -- A call that changes the tree in one way changes it in another, too, where the one is a case of the other.
-pub changes_then : {A : Type 0} (one other : A → Tree → Tree → Type 0) (old new : Disk) (r : Result A FileFault)
-    → Changes one old new r → (IsTrue old.tells → (x : A) → one x old.tree new.tree → other x old.tree new.tree)
-    → Changes other old new r
+pub changes_then : {F A : Type 0} {disk : Option (F → Disk)} (one other : A → Tree → Tree → Type 0) (old new : F)
+    (r : Result A FileFault) → Changes disk one old new r
+    → Seen disk (λ see. (x : A) → one x (see old).tree (see new).tree → other x (see old).tree (see new).tree)
+    → Changes disk other old new r
 changes_then {A = A} one other old new r c then = record {
-  tells = c.tells;
-  ok = λ tells. along r (then tells) (c.ok tells);
+  ok = λ some. along r (then some) (c.ok some);
   err = c.err;
   place = c.place;
   step = c.step;
   failed = c.failed;
 }
   where
-    along : (s : Result A FileFault) → ((x : A) → one x old.tree new.tree → other x old.tree new.tree)
-        → IfOk s (λ x. one x old.tree new.tree) → IfOk s (λ x. other x old.tree new.tree)
+    along : {a b : Tree} (s : Result A FileFault) → ((x : A) → one x a b → other x a b)
+        → IfOk s (λ x. one x a b) → IfOk s (λ x. other x a b)
     along (Ok x) case is = case x is
     along (Err e) case is = tt
 
-pub keeps_none : (read : List FileKey) (disk : Disk) → KeepsDecent read disk disk
-keeps_none read disk = record { tells = refl; steps = λ tells all. all; failed = λ tells is. is }
+pub keeps_none : {F : Type 0} (disk : Option (F → Disk)) (read : List FileKey) (fs : F) → KeepsDecent disk read fs fs
+keeps_none disk read fs = record { steps = λ some all. all; failed = λ some is. is }
 
-pub keeps_then : {read : List FileKey} {a b c : Disk} → KeepsDecent read a b → KeepsDecent read b c
-    → KeepsDecent read a c
-keeps_then {read} {a} {b} {c} first then = record {
-  tells = then.tells ∙ first.tells;
-  steps = λ tells all. then.steps (on tells) (first.steps tells all);
-  failed = λ tells is. then.failed (on tells) (first.failed tells is);
+pub keeps_then : {F : Type 0} {disk : Option (F → Disk)} {read : List FileKey} {a b c : F} → KeepsDecent disk read a b
+    → KeepsDecent disk read b c → KeepsDecent disk read a c
+keeps_then first then = record {
+  steps = λ some all. then.steps some (first.steps some all);
+  failed = λ some is. then.failed some (first.failed some is);
 }
-  where
-    on : IsTrue a.tells → IsTrue b.tells
-    on tells = first.tells ∙ tells
 
 kept : (old new : Tree) (o : Option Node) → ((k : FileKey) → IsFile k o → new.bytes k ≡ old.bytes k)
     → bytes_of new o ≡ bytes_of old o

@@ -38,10 +38,10 @@ files_left written old new stand leaves = map_same (file_in new) (file_in old) w
     file_same old new (slice_index_or written k d) there (leaves.entries k d within there) (leaves.bytes k d within))
 
 -- They show what they showed, if the list is the same.
-pub files_then : {ws now : List WrittenFile} {old new : Tree} {files : List File} → now ≡ ws → FilesAreThere old ws
-    → Leaves ws old new → map (file_in old) ws ≡ files → map (file_in new) now ≡ files
-files_then {ws} {now} {old} {new} {files} same there leaves is =
-    ap (λ (l : List WrittenFile). map (file_in new) l) same ∙ files_left ws old new there leaves ∙ is
+pub files_then : {ws now : List WrittenFile} {old new : Tree} → now ≡ ws → FilesAreThere old ws → Leaves ws old new
+    → map (file_in new) now ≡ map (file_in old) ws
+files_then {ws} {now} {old} {new} same there leaves =
+    ap (λ (l : List WrittenFile). map (file_in new) l) same ∙ files_left ws old new there leaves
 
 -- Whether a file isn't of this name.
 abbrev pub is_other : List ℕ → WrittenFile → Bool

@@ -2,7 +2,7 @@
 use Rattle.std.specs.Prelude.{ℕ, List, [], map, Option, Some, None, option_map, string_bytes}
 use Rattle.cweb_files.specs.Bins.{refusal}
 use Rattle.cweb_files.specs.Files.{File}
-use Rattle.cweb_files.specs.Sinks.{Beside, SinkContents, SinkModel, known}
+use Rattle.cweb_files.specs.Sinks.{SinkContents, SinkModel}
 use Rattle.cweb_system.specs.declared.bins.Folder.{Folder}
 use Rattle.cweb_system.specs.declared.drafts.path.Draft.{Draft}
 use Rattle.cweb_system.specs.declared.file_system.FileSystem.{Ghosts as FileSystem}
@@ -10,6 +10,7 @@ use Rattle.cweb_system.specs.declared.folder_bins.FolderBins.{FolderBins}
 use Rattle.cweb_system.specs.declared.node.FileKey.{FileKey}
 use Rattle.cweb_system.specs.declared.written.WrittenFile.{WrittenFile}
 use Rattle.cweb_system.specs.FileSet.{keys_in}
+use Rattle.cweb_system.specs.Steps.{Disk}
 use Rattle.cweb_system.specs.Tree.{Tree, contents}
 
 -- The contents of each file that can be opened, by its path.
@@ -27,25 +28,21 @@ abbrev pub draft_bytes : {H : Type 0} → Tree → Option (Draft H) → List ℕ
 draft_bytes tree None = []
 draft_bytes tree (Some draft) = tree.bytes draft.key
 
-abbrev pub folder_bytes : {F H : Type 0} (system : FileSystem F H) → Folder F H system → List ℕ
-folder_bytes system folder = draft_bytes (system.disk folder.fs).tree folder.draft
-
-abbrev pub folder_beside : {F H : Type 0} (system : FileSystem F H) → Folder F H system → Beside
-folder_beside system folder = record {
-  files = map (file_in (system.disk folder.fs).tree) folder.files.written.items;
-  draft = option_map draft_name folder.draft;
-  refused = option_map refusal folder.refused;
+-- The draft's bytes and what is beside them.
+abbrev pub folder_contents : {F H : Type 0} {system : FileSystem F H} → Tree → Folder F H system → SinkContents
+folder_contents tree folder = record {
+  bytes = draft_bytes tree folder.draft;
+  beside = record {
+    files = map (file_in tree) folder.files.written.items;
+    draft = option_map draft_name folder.draft;
+    refused = option_map refusal folder.refused;
+  };
 }
 
--- The draft's bytes and what is beside them.
-abbrev pub folder_contents : {F H : Type 0} (system : FileSystem F H) → Folder F H system → SinkContents
-folder_contents system folder =
-    record { bytes = folder_bytes system folder; beside = folder_beside system folder }
-
 abbrev pub folder_model : {F H : Type 0} (system : FileSystem F H) → Folder F H system → SinkModel
-folder_model system folder = record {
+folder_model {F = F} system folder = record {
   failed = folder.failed;
-  contents = known (system.disk folder.fs).tells (folder_contents system folder);
+  contents = option_map (λ (see : F → Disk). folder_contents (see folder.fs).tree folder) system.disk;
 }
 
 abbrev pub bins_system : {F H : Type 0} {system : FileSystem F H} → FolderBins F H system → F
@@ -56,11 +53,13 @@ abbrev pub bins_read : {F H : Type 0} {system : FileSystem F H} → FolderBins F
 bins_read bins = keys_in bins.folder.files.read
 
 -- Bins that have committed no file.
-abbrev pub empty_bins : {F H : Type 0} → FileSystem F H → F → SinkModel
-empty_bins system fs = record {
+abbrev pub empty_bins : {F H : Type 0} → FileSystem F H → SinkModel
+empty_bins {F = F} system = record {
   failed = 0;
-  contents = known (system.disk fs).tells
-      (record { bytes = []; beside = record { files = []; draft = None; refused = None } });
+  contents = option_map (λ (see : F → Disk). record {
+    bytes = [];
+    beside = record { files = []; draft = None; refused = None };
+  }) system.disk;
 }
 
 -- The bins as a sink.

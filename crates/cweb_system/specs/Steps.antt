@@ -1,18 +1,29 @@
 -- The steps of a file system, and what one step may do to the entries that are no drafts.
-use Rattle.std.specs.Prelude.{◌≡◌, ◌≤◌, ◌<◌, ◌⊎◌, ℕ, List, [], ◌∷◌, ◌++◌, Bool, Contains, IsTrue, IfOk, OnErr, Result, Ok, Err, ⊤, length, take}
+use Rattle.std.specs.Prelude.{◌≡◌, ◌⊎◌, ℕ, List, [], ◌∷◌, ◌++◌, Bool, Contains, IsTrue, IfOk, IsSome, OnErr, Option, None, Result, Ok, Err, ⊤, false}
+use Rattle.std.specs.Option.{unwrap_or}
 use Rattle.cweb_system.specs.declared.node.FileFault.{FileFault}
 use Rattle.cweb_system.specs.declared.node.FileKey.{FileKey}
-use Rattle.cweb_system.specs.Tree.{Tree, Appends, IsFile, bytes_of}
+use Rattle.cweb_system.specs.Tree.{Tree, IsFile, bytes_of}
 
--- What contracts know of a file system.
+-- What contracts know of an observable file system.
 pub record Disk : Type 0 where
-  -- Whether the state is observable.
-  pub tells : Bool
   pub tree : Tree
   -- The states before this one in the run, the latest first.
   pub past : List Tree
   -- Whether a call that changes files has failed.
   pub failed : Bool
+
+-- Clauses say nothing of what is seen of an unobservable file system.
+abbrev pub nothing_seen : {F : Type 0} → F → Disk
+nothing_seen fs = record {
+  tree = record { place = λ path. path; node = λ place. None; target = λ path. None; bytes = λ key. [] };
+  past = [];
+  failed = false;
+}
+
+-- If the file system is observable, this holds of what is seen of it.
+abbrev pub Seen : {F : Type 0} → Option (F → Disk) → ((F → Disk) → Type 0) → Type 0
+Seen disk Says = IsSome disk → Says (unwrap_or disk nothing_seen)
 
 -- A call takes one step or none.
 abbrev pub TakesStep : Disk → Disk → Type 0
@@ -25,22 +36,13 @@ NotesFailure was now (Err fault) = IsTrue now
 
 -- A call changes the tree as its result says. If it fails, it changes nothing, and that is noted. A path never comes to
 -- name another place.
-pub record Changes {A : Type 0} (change : A → Tree → Tree → Type 0) (old new : Disk) (result : Result A FileFault)
-    : Type 0 where
-  pub tells : new.tells ≡ old.tells
-  pub ok : IsTrue old.tells → IfOk result (λ done. change done old.tree new.tree)
-  pub err : IsTrue old.tells → OnErr result (new.tree ≡ old.tree)
-  pub place : IsTrue old.tells → new.tree.place ≡ old.tree.place
-  pub step : IsTrue old.tells → TakesStep old new
-  pub failed : IsTrue old.tells → NotesFailure old.failed new.failed result
-
--- A prefix of some bytes is appended to a file, nonempty if they are. The file keeps its key.
-pub record Writes {H : Type 0} (key : H → FileKey) (piece : List ℕ) (file after : H) (old new : Disk)
-    (result : Result ℕ FileFault) : Type 0 where
-  pub changes : Changes (λ n. Appends (key file) (take n piece)) old new result
-  pub within : IfOk result (λ n. n ≤ length piece)
-  pub some : 0 < length piece → IfOk result (λ n. 0 < n)
-  pub same : IsTrue old.tells → key after ≡ key file
+pub record Changes {F A : Type 0} (disk : Option (F → Disk)) (change : A → Tree → Tree → Type 0) (old new : F)
+    (result : Result A FileFault) : Type 0 where
+  pub ok : Seen disk (λ see. IfOk result (λ done. change done (see old).tree (see new).tree))
+  pub err : Seen disk (λ see. OnErr result ((see new).tree ≡ (see old).tree))
+  pub place : Seen disk (λ see. (see new).tree.place ≡ (see old).tree.place)
+  pub step : Seen disk (λ see. TakesStep (see old) (see new))
+  pub failed : Seen disk (λ see. NotesFailure (see old).failed (see new).failed result)
 
 -- The place of a draft: of some name with byte 127 after it.
 abbrev pub IsDraftPlace : Tree → List ℕ → Type 0

@@ -1,6 +1,7 @@
 // Files of a file system as bins.
 ghost use Rattle.std.specs.Prelude.{◌≡◌, ◌≤◌, ◌<◌, ◌+◌, ◌^◌, ◌++◌, [], None, IsTrue, IsSome, IfSome, IfOk, IfErr, OnOk, OnErr};
 ghost use Rattle.std.specs.Prelude.{length, take, string_bytes};
+ghost use Rattle.cweb_system.specs.Steps.{Seen};
 ghost use Rattle.cweb_system.specs.inner.Drafts.{IfCanBegin, IfCanPlace, IsCleared};
 ghost use Rattle.cweb_system.specs.inner.Drafts.{KeepsMode};
 ghost use Rattle.cweb_system.specs.inner.FolderSound.{IsSound, IsSound_prop};
@@ -22,32 +23,27 @@ pub struct Folder<F: FileSystem + Drop> {
     /// Why the last draft was refused.
     pub refused: Option<BinFault>,
     pub failed: u64,
-    ghost sound: { IsSound F.key files draft (F.disk fs) } by { IsSound_prop },
+    ghost sound: { IsSound F.disk F.key files draft fs } by { IsSound_prop },
 }
 
 impl<F: FileSystem + Drop> Folder<F> {
-    ghost use Rattle.cweb_system.specs.Bins.{folder_contents, folder_model};
-    ghost use Rattle.cweb_system.specs.inner.FolderCalls.{KeepsFolder, UsesDraft};
-    ghost use Rattle.cweb_files.specs.Bins.{refusal, refused};
-    ghost use Rattle.cweb_files.specs.Sinks.{committed, with_draft, with_printed, without_file};
-    ghost use Rattle.cweb_files.specs.Sinks.{without_draft};
+    ghost use Rattle.cweb_system.specs.Bins.{folder_model};
+    ghost use Rattle.cweb_system.specs.inner.FolderCalls.{KeepsFolder};
+    ghost use Rattle.cweb_files.specs.Bins.{refused};
+    ghost use Rattle.cweb_files.specs.Sinks.{HasDraft, changed, committed, failed_once, failing};
+    ghost use Rattle.cweb_files.specs.Sinks.{with_draft, without_draft, written};
 
     /// Begins an empty draft and discards an open one.
     pub fn start(&mut self, name: &str) -> Result<(), BinFault>
         requires { self.old.failed + 1 < 2 ^ 64 }
         ensures keeps { KeepsFolder F.FileSystem self.old self.new }
-        ensures failed { IfErr result (λ fault.
-            self.new.failed ≡ (refused fault (folder_model F.FileSystem self.old)).failed) }
-        ensures kept { OnOk result (self.new.failed ≡ self.old.failed) }
-        ensures begun { IsTrue (F.disk self.old.fs).tells → OnOk result
-            (folder_contents F.FileSystem self.new
-            ≡ with_draft name.now (folder_contents F.FileSystem self.old)) }
-        ensures err { IsTrue (F.disk self.old.fs).tells → IfErr result (λ fault.
-            folder_contents F.FileSystem self.new
-            ≡ without_file (Some (refusal fault)) (folder_contents F.FileSystem self.old)) }
-        ensures cause { self.old.draft ≡ None →
-            IfCanBegin self.old.files name.now (F.disk self.old.fs) (IfErr result
-            (λ fault. fault ≡ BinFault.Device → IsTrue (F.disk self.new.fs).failed)) }
+        ensures begun { OnOk result (folder_model F.FileSystem self.new
+            ≡ changed (with_draft name.now) (folder_model F.FileSystem self.old)) }
+        ensures err { IfErr result (λ fault. folder_model F.FileSystem self.new
+            ≡ refused fault (folder_model F.FileSystem self.old)) }
+        ensures cause { Seen F.disk (λ see. self.old.draft ≡ None →
+            IfCanBegin self.old.files name.now (see self.old.fs) (IfErr result
+            (λ fault. fault ≡ BinFault.Device → IsTrue (see self.new.fs).failed))) }
     {
         self.abandon();
         match begin(self.alloc, &mut self.fs, name, &mut self.files) {
@@ -70,16 +66,16 @@ impl<F: FileSystem + Drop> Folder<F> {
     /// Appends bytes to the draft.
     pub fn add(&mut self, piece: &[u8]) -> Result<usize, SinkFault>
         requires { self.old.failed + 1 < 2 ^ 64 }
-        ensures uses { UsesDraft F.FileSystem self.old self.new result }
+        ensures keeps { KeepsFolder F.FileSystem self.old self.new }
         ensures within { IfOk result (λ n. n ≤ length piece.now) }
         ensures some { 0 < length piece.now → IfOk result (λ n. 0 < n) }
-        ensures ok { IsTrue (F.disk self.old.fs).tells → IfOk result (λ n.
-            folder_contents F.FileSystem self.new
-            ≡ with_printed (take n piece.now) (folder_contents F.FileSystem self.old)) }
-        ensures err { IsTrue (F.disk self.old.fs).tells → OnErr result
-            (folder_contents F.FileSystem self.new ≡ folder_contents F.FileSystem self.old) }
-        ensures cause { IsTrue (F.disk self.old.fs).tells → IsSome self.old.draft →
-            OnErr result (IsTrue (F.disk self.new.fs).failed) }
+        ensures ok { IfOk result (λ n. folder_model F.FileSystem self.new
+            ≡ written (take n piece.now) (folder_model F.FileSystem self.old)) }
+        ensures err { OnErr result (folder_model F.FileSystem self.new
+            ≡ failed_once (folder_model F.FileSystem self.old)) }
+        ensures begun { OnOk result (HasDraft (folder_model F.FileSystem self.old)) }
+        ensures cause { Seen F.disk (λ see. IsSome self.old.draft →
+            OnErr result (IsTrue (see self.new.fs).failed)) }
     {
         let Some(mut draft) = self.draft.take() else {
             self.failed += 1;
@@ -99,20 +95,21 @@ impl<F: FileSystem + Drop> Folder<F> {
     /// Makes the draft a file of its name.
     pub fn commit(&mut self) -> Result<(), BinFault>
         requires { self.old.failed + 1 < 2 ^ 64 }
-        ensures uses { UsesDraft F.FileSystem self.old self.new result }
+        ensures keeps { KeepsFolder F.FileSystem self.old self.new }
         ensures device { IfErr result (λ fault. fault ≡ BinFault.Device) }
-        ensures ok { IsTrue (F.disk self.old.fs).tells → OnOk result
-            (folder_contents F.FileSystem self.new
-            ≡ committed (folder_contents F.FileSystem self.old)) }
-        ensures mode { IsTrue (F.disk self.old.fs).tells → OnOk result (IfSome self.old.draft
+        ensures begun { OnOk result (HasDraft (folder_model F.FileSystem self.old)) }
+        ensures ok { OnOk result (folder_model F.FileSystem self.new
+            ≡ changed committed (folder_model F.FileSystem self.old)) }
+        ensures err { OnErr result (folder_model F.FileSystem self.new
+            ≡ failing without_draft (folder_model F.FileSystem self.old)) }
+        ensures mode { Seen F.disk (λ see. OnOk result (IfSome self.old.draft
             (λ draft. KeepsMode (string_bytes draft.name) (string_bytes draft.name) draft.key
-            (F.disk self.old.fs).tree (F.disk self.new.fs).tree)) }
-        ensures removed { IsTrue (F.disk self.old.fs).tells → IfSome self.old.draft (λ draft.
-            IsCleared (string_bytes draft.path) (F.disk self.new.fs)) }
-        ensures err { IsTrue (F.disk self.old.fs).tells → OnErr result (folder_contents
-            F.FileSystem self.new ≡ without_draft (folder_contents F.FileSystem self.old)) }
-        ensures cause { IfSome self.old.draft (λ draft. IfCanPlace self.old.files draft
-            (F.disk self.old.fs) (OnErr result (IsTrue (F.disk self.new.fs).failed))) }
+            (see self.old.fs).tree (see self.new.fs).tree))) }
+        ensures removed { Seen F.disk (λ see. IfSome self.old.draft (λ draft.
+            IsCleared (string_bytes draft.path) (see self.new.fs))) }
+        ensures cause { Seen F.disk (λ see. IfSome self.old.draft (λ draft.
+            IfCanPlace self.old.files draft (see self.old.fs)
+            (OnErr result (IsTrue (see self.new.fs).failed)))) }
     {
         let Some(draft) = self.draft.take() else {
             self.failed += 1;
@@ -130,11 +127,10 @@ impl<F: FileSystem + Drop> Folder<F> {
     /// Discards the draft, if there is one.
     pub fn abandon(&mut self)
         ensures keeps { KeepsFolder F.FileSystem self.old self.new }
-        ensures failed { self.new.failed ≡ self.old.failed }
-        ensures gone { IsTrue (F.disk self.old.fs).tells → folder_contents F.FileSystem self.new
-            ≡ without_draft (folder_contents F.FileSystem self.old) }
-        ensures removed { IsTrue (F.disk self.old.fs).tells → IfSome self.old.draft (λ draft.
-            IsCleared (string_bytes draft.path) (F.disk self.new.fs)) }
+        ensures gone { folder_model F.FileSystem self.new
+            ≡ changed without_draft (folder_model F.FileSystem self.old) }
+        ensures removed { Seen F.disk (λ see. IfSome self.old.draft (λ draft.
+            IsCleared (string_bytes draft.path) (see self.new.fs))) }
         ensures idle { self.old.draft ≡ None → self.new.fs ≡ self.old.fs }
         ensures files { self.new.files ≡ self.old.files }
         ensures refused { self.new.refused ≡ self.old.refused }

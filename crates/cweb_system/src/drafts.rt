@@ -1,6 +1,7 @@
 // Drafts: files that become outputs when they are renamed.
 ghost use Rattle.std.specs.Prelude.{◌≡◌, ◌++◌, ◌∷◌, [], IsTrue, IsErr, IfErr, IfOk, OnOk, string_bytes};
 ghost use Rattle.cweb_system.specs.FileSet.{keys_in};
+ghost use Rattle.cweb_system.specs.Steps.{Seen};
 ghost use Rattle.cweb_system.specs.inner.Drafts.{DraftIsThere, CanPut, HasCause, HasDraft, IfCanBegin, LeavesFiles};
 ghost use Rattle.cweb_system.specs.inner.Drafts.{Prepares};
 ghost use Rattle.cweb_system.specs.inner.Keys.{is_among};
@@ -32,17 +33,17 @@ pub fn begin<F: FileSystem>(
     name: &str,
     files: &mut RunFiles,
 ) -> Result<Draft<F::File>, FileFault>
-    requires { HasFiles files.old.written.items (F.disk fs.old) }
-    ensures leaves { LeavesFiles files.old (F.disk fs.old) (F.disk fs.new) }
+    requires { HasFiles F.disk fs.old files.old.written.items }
+    ensures leaves { LeavesFiles F.disk files.old fs.old fs.new }
     ensures read { files.new.read ≡ files.old.read }
     ensures written { files.new.written.items ≡ files.old.written.items }
     ensures room { IfOk result (λ draft. CanPut files.new draft.key) }
     ensures named { IfOk result (λ draft. string_bytes draft.name ≡ name.now) }
-    ensures begun { IsTrue (F.disk fs.old).tells → IfOk result (λ draft.
-        DraftIsThere F.key files.old.written.items draft (F.disk fs.new).tree ×
-        ((F.disk fs.new).tree.bytes draft.key ≡ [])) }
-    ensures cause { IfCanBegin files.old name.now (F.disk fs.old)
-        (HasCause (F.disk fs.new).failed result) }
+    ensures begun { Seen F.disk (λ see. IfOk result (λ draft.
+        DraftIsThere F.key files.old.written.items draft (see fs.new).tree
+        × ((see fs.new).tree.bytes draft.key ≡ []))) }
+    ensures cause { Seen F.disk (λ see. IfCanBegin files.old name.now (see fs.old)
+        (HasCause (see fs.new).failed result)) }
 {
     files.reserve()?;
     let path = draft_path(alloc, name)?;
@@ -60,12 +61,12 @@ fn record<F: FileSystem>(
     files: &mut RunFiles,
     draft: Draft<F::File>,
 ) -> Result<Draft<F::File>, FileFault>
-    requires { HasDraft F.key files.old draft (F.disk fs.old) }
-    ensures leaves { LeavesFiles files.old (F.disk fs.old) (F.disk fs.new) }
+    requires { HasDraft F.disk F.key files.old draft fs.old }
+    ensures leaves { LeavesFiles F.disk files.old fs.old fs.new }
     ensures read { files.new.read ≡ files.old.read }
     ensures written { files.new.written ≡ files.old.written }
     ensures created { OnOk result (IsTrue (is_among (keys_in files.new.created) draft.key)) }
-    ensures same { IfOk result (λ kept. (kept ≡ draft) × (F.disk fs.new ≡ F.disk fs.old)) }
+    ensures same { IfOk result (λ kept. (kept ≡ draft) × (fs.new ≡ fs.old)) }
     ensures memory { IfErr result (λ fault. fault ≡ FileFault.Memory) }
 {
     if files.create(draft.key).is_err() {
@@ -83,13 +84,13 @@ fn begin_draft<F: FileSystem>(
     mode: Option<u32>,
     files: &RunFiles,
 ) -> Result<Draft<F::File>, FileFault>
-    requires files { HasFiles files.now.written.items (F.disk fs.old) }
+    requires files { HasFiles F.disk fs.old files.now.written.items }
     requires path { string_bytes path ≡ string_bytes name ++ 127 ∷ [] }
-    ensures leaves { Prepares (string_bytes path) files.now (F.disk fs.old) (F.disk fs.new) result }
+    ensures leaves { Prepares F.disk (string_bytes path) files.now fs.old fs.new result }
     ensures named { IfOk result (λ draft. draft.name ≡ name) }
-    ensures begun { IsTrue (F.disk fs.old).tells → IfOk result (λ draft.
-        DraftIsThere F.key files.now.written.items draft (F.disk fs.new).tree ×
-        ((F.disk fs.new).tree.bytes draft.key ≡ [])) }
+    ensures begun { Seen F.disk (λ see. IfOk result (λ draft.
+        DraftIsThere F.key files.now.written.items draft (see fs.new).tree
+        × ((see fs.new).tree.bytes draft.key ≡ []))) }
 {
     let draft = DraftPath {
         name: name.as_str(),
@@ -114,7 +115,7 @@ fn begin_device<F: FileSystem>(
 ) -> Result<Draft<F::File>, FileFault>
     requires { string_bytes path ≡ string_bytes name ++ 127 ∷ [] }
     ensures named { IfOk result (λ draft. draft.name ≡ name) }
-    ensures unseen { IsTrue (F.disk fs.now).tells → IsErr result }
+    ensures unseen { Seen F.disk (λ _. IsErr result) }
 {
     let file = fs.open_device(name.as_str())?;
     let key = fs.key_of(&file)?;

@@ -1,8 +1,8 @@
 // The calls to the file system that a run needs, and what each does.
-ghost use Rattle.std.specs.Prelude.{◌≡◌, ◌≤◌, ◌<◌, ◌++◌, ℕ, List, [], IsTrue, IsErr, IfOk, MatchResult, Ok, length, take};
+ghost use Rattle.std.specs.Prelude.{◌≡◌, ◌≤◌, ◌<◌, ◌++◌, ℕ, List, [], Option, IsErr, IsOk, IfOk, MatchResult, Ok, length, take};
 ghost use Rattle.cweb_system.specs.declared.node.FileKey.{FileKey};
-ghost use Rattle.cweb_system.specs.Steps.{Changes, Disk, Writes};
-ghost use Rattle.cweb_system.specs.Tree.{at, rest, IsAbsent, MayCreate, MayRename, Opens, Removes, SetsMode};
+ghost use Rattle.cweb_system.specs.Steps.{Changes, Disk, Seen};
+ghost use Rattle.cweb_system.specs.Tree.{at, rest, Appends, IsAbsent, MayCreate, MayRename, Opens, Removes, SetsMode};
 
 use crate::node::{FileFault, FileKey, Node};
 
@@ -15,7 +15,8 @@ pub trait FileSystem {
     /// An open file.
     type File: Drop;
 
-    ghost disk: { Self → Disk };
+    /// What is seen of it, if it is observable.
+    ghost disk: { Option (Self → Disk) };
 
     ghost key: { Self.File → FileKey };
 
@@ -27,58 +28,61 @@ pub trait FileSystem {
 
     /// Looks up the entry under a path. A link isn't followed.
     fn look(&self, path: &str) -> Option<Node>
-        ensures { IsTrue (disk self.now).tells → result ≡ at (disk self.now).tree path.now };
+        ensures { Seen disk (λ see. result ≡ at (see self.now).tree path.now) };
 
     /// Looks up what a path leads to, links followed.
     fn follow(&self, path: &str) -> Option<Node>;
 
     fn key_of(&self, file: &Self::File) -> Result<FileKey, FileFault>
-        ensures { IsTrue (disk self.now).tells → result ≡ Ok (key file.now) };
+        ensures { Seen disk (λ _. result ≡ Ok (key file.now)) };
 
     /// Waits for the lock of an open file.
     fn lock(&self, file: &Self::File) -> Result<(), FileFault>;
 
     /// Opens a file for reading, links followed. In an observable file system only memory can be lacking for that.
     fn open(&self, path: &str) -> Result<Self::File, FileFault>
-        ensures { IsTrue (disk self.now).tells → MatchResult result
-            (λ file. Opens path.now (key file) (position file) (opened_as file) (disk self.now).tree)
-            (λ fault. (fault ≡ FileFault.Memory → ⊥) → IsAbsent path.now (disk self.now).tree) };
+        ensures { Seen disk (λ see. MatchResult result
+            (λ file. Opens path.now (key file) (position file) (opened_as file) (see self.now).tree)
+            (λ fault. (fault ≡ FileFault.Memory → ⊥) → IsAbsent path.now (see self.now).tree)) };
 
     /// Reads from a file that `open` opened, into a prefix of `piece`. In an observable file system it doesn't fail, and
     /// reads no byte only at the end.
     fn read(&self, file: &mut Self::File, piece: &mut [u8]) -> Result<usize, FileFault>
         ensures within { IfOk result (λ n. n ≤ length piece.new) }
-        ensures same { IsTrue (disk self.now).tells →
-            (key file.new ≡ key file.old) × (opened_as file.new ≡ opened_as file.old) }
-        ensures ok { IsTrue (disk self.now).tells → IfOk result (λ n.
-            rest (disk self.now).tree (key file.old) (position file.old)
-            ≡ take n piece.new ++ rest (disk self.now).tree (key file.old) (position file.new)) }
-        ensures some { IsTrue (disk self.now).tells → 0 < length piece.old → result ≡ Ok 0 →
-            rest (disk self.now).tree (key file.old) (position file.old) ≡ [] }
-        ensures err { IsTrue (disk self.now).tells → IsErr result → ⊥ };
+        ensures key { key file.new ≡ key file.old }
+        ensures named { opened_as file.new ≡ opened_as file.old }
+        ensures ok { Seen disk (λ see. IfOk result (λ n.
+            rest (see self.now).tree (key file.old) (position file.old)
+            ≡ take n piece.new ++ rest (see self.now).tree (key file.old) (position file.new))) }
+        ensures some { Seen disk (λ see. 0 < length piece.old → result ≡ Ok 0 →
+            rest (see self.now).tree (key file.old) (position file.old) ≡ []) }
+        ensures never { Seen disk (λ _. IsOk result) };
 
     /// Opens a device for writing; the path leads to one. An observable file system has none.
     fn open_device(&self, path: &str) -> Result<Self::File, FileFault>
-        ensures { IsTrue (disk self.now).tells → IsErr result };
+        ensures { Seen disk (λ _. IsErr result) };
 
     /// Creates a file and opens it for writing. `None`: something is there.
     fn create(&mut self, path: &str, mode: Option<u32>) -> Result<Option<Self::File>, FileFault>
-        ensures { Changes (MayCreate key path.now) (disk self.old) (disk self.new) result };
+        ensures { Changes disk (MayCreate key path.now) self.old self.new result };
 
     /// Appends a prefix of `piece`, nonempty if `piece` is.
     fn write(&mut self, file: &mut Self::File, piece: &[u8]) -> Result<usize, FileFault>
-        ensures { Writes key piece.now file.old file.new (disk self.old) (disk self.new) result };
+        ensures within { IfOk result (λ n. n ≤ length piece.now) }
+        ensures some { 0 < length piece.now → IfOk result (λ n. 0 < n) }
+        ensures key { key file.new ≡ key file.old }
+        ensures changes { Changes disk (λ n. Appends (key file.old) (take n piece.now)) self.old
+            self.new result };
 
     /// Sets the nine permission bits of an open file.
     fn set_mode(&mut self, file: &Self::File, mode: u32) -> Result<(), FileFault>
-        ensures { Changes (λ _. SetsMode (key file.now) mode)
-            (disk self.old) (disk self.new) result };
+        ensures { Changes disk (λ _. SetsMode (key file.now) mode) self.old self.new result };
 
     /// Renames a regular file. It replaces what is at the new path, in one step.
     fn rename(&mut self, from: &str, to: &str) -> Result<(), FileFault>
-        ensures { Changes (λ _. MayRename from.now to.now) (disk self.old) (disk self.new) result };
+        ensures { Changes disk (λ _. MayRename from.now to.now) self.old self.new result };
 
     /// Removes the entry under a path, which is no folder.
     fn remove(&mut self, path: &str) -> Result<(), FileFault>
-        ensures { Changes (λ _. Removes path.now) (disk self.old) (disk self.new) result };
+        ensures { Changes disk (λ _. Removes path.now) self.old self.new result };
 }

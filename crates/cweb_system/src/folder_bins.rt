@@ -1,7 +1,6 @@
 // Bins over a file system, observable if the file system is.
-ghost use Rattle.std.specs.Prelude.{IsTrue};
 ghost use Rattle.cweb_system.specs.FileSet.{keys_in};
-ghost use Rattle.cweb_system.specs.Steps.{AreDecent};
+ghost use Rattle.cweb_system.specs.Steps.{AreDecent, Seen};
 
 use crate::bins::Folder;
 use crate::file_set::FileSet;
@@ -15,8 +14,8 @@ use std::alloc::Global;
 pub struct FolderBins<F: FileSystem + Drop> {
     folder: Folder<F>,
     /// At each moment, each file that is no draft was the old one or a whole draft.
-    ghost steps: { ∥ (IsTrue (F.disk folder.fs).tells →
-        AreDecent (keys_in folder.files.read) (F.disk folder.fs).tree (F.disk folder.fs).past) ∥₁ },
+    ghost steps: { ∥ (Seen F.disk (λ see.
+        AreDecent (keys_in folder.files.read) (see folder.fs).tree (see folder.fs).past)) ∥₁ },
 }
 
 impl<F: FileSystem + Drop> FolderBins<F> {
@@ -25,10 +24,10 @@ impl<F: FileSystem + Drop> FolderBins<F> {
 
     /// Bins that have committed no file. No output replaces a file in `read`.
     pub fn new(alloc: Global, fs: F, read: FileSet) -> Self
-        requires { IsTrue (F.disk fs).tells → (F.disk fs).past ≡ [] }
+        requires { Seen F.disk (λ see. (see fs).past ≡ []) }
         ensures system { bins_system result ≡ fs }
         ensures read { bins_read result ≡ keys_in read }
-        ensures empty { bins_model F.FileSystem result ≡ empty_bins F.FileSystem fs }
+        ensures empty { bins_model F.FileSystem result ≡ empty_bins F.FileSystem }
     {
         FolderBins {
             folder: Folder {
@@ -44,8 +43,8 @@ impl<F: FileSystem + Drop> FolderBins<F> {
 
     /// At each moment so far, each file that is no draft was the old one or a whole draft. (A law.)
     pub fn each_moment(&self)
-        ensures { ∥ (IsTrue (F.disk (bins_system self.now)).tells → AreDecent (bins_read self.now)
-            (F.disk (bins_system self.now)).tree (F.disk (bins_system self.now)).past) ∥₁ }
+        ensures { ∥ (Seen F.disk (λ see. AreDecent (bins_read self.now)
+            (see (bins_system self.now)).tree (see (bins_system self.now)).past)) ∥₁ }
     {}
 
     /// The file system.

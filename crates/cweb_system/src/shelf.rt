@@ -3,6 +3,7 @@ ghost use Rattle.std.specs.Prelude.{◌≡◌, [], None, Some, IsTrue, IfOk, IfS
 ghost use Rattle.std.specs.Option.{unwrap_or};
 ghost use Rattle.std.proofs.Props.{props};
 ghost use Rattle.cweb_system.specs.FileSet.{keys_in};
+ghost use Rattle.cweb_system.specs.Steps.{Seen};
 ghost use Rattle.cweb_system.specs.Tree.{IsAbsent, Opens};
 ghost use Rattle.cweb_system.specs.inner.Keys.{KeepsRead, is_among};
 
@@ -21,10 +22,9 @@ pub struct FolderShelf<F: FileSystem + Drop> {
     read: Option<FileSet>,
     failed: u64,
     /// In an observable file system no read fails.
-    ghost whole: { IsTrue (F.disk fs).tells → failed ≡ 0 } by { Prim.hlevel props },
+    ghost whole: { Seen F.disk (λ _. failed ≡ 0) } by { Prim.hlevel props },
     /// Reading takes no step.
-    ghost unchanged: { IsTrue (F.disk fs).tells →
-        length (F.disk fs).past ≡ 0 } by { Prim.hlevel props },
+    ghost unchanged: { Seen F.disk (λ see. length (see fs).past ≡ 0) } by { Prim.hlevel props },
 }
 
 impl<F: FileSystem + Drop> FolderShelf<F> {
@@ -33,7 +33,7 @@ impl<F: FileSystem + Drop> FolderShelf<F> {
 
     /// A shelf that doesn't record what it opens.
     pub fn new(fs: F) -> Self
-        requires { IsTrue (F.disk fs).tells → (F.disk fs).past ≡ [] }
+        requires { Seen F.disk (λ see. (see fs).past ≡ []) }
         ensures system { shelf_system result ≡ fs }
         ensures failed { shelf_failures result ≡ 0 }
         ensures read { shelf_read result ≡ None }
@@ -47,7 +47,7 @@ impl<F: FileSystem + Drop> FolderShelf<F> {
 
     /// A shelf that records each file that it opens, so that no output replaces it.
     pub fn noting(fs: F, read: FileSet) -> Self
-        requires { IsTrue (F.disk fs).tells → (F.disk fs).past ≡ [] }
+        requires { Seen F.disk (λ see. (see fs).past ≡ []) }
         ensures system { shelf_system result ≡ fs }
         ensures failed { shelf_failures result ≡ 0 }
         ensures read { shelf_read result ≡ Some (keys_in read) }
@@ -63,8 +63,7 @@ impl<F: FileSystem + Drop> FolderShelf<F> {
     pub fn into_bins(self, alloc: Global) -> FolderBins<F>
         ensures system { bins_system result ≡ shelf_system self }
         ensures read { bins_read result ≡ unwrap_or (shelf_read self) [] }
-        ensures empty { bins_model F.FileSystem result
-            ≡ empty_bins F.FileSystem (shelf_system self) }
+        ensures empty { bins_model F.FileSystem result ≡ empty_bins F.FileSystem }
     {
         let FolderShelf {
             fs,
@@ -78,13 +77,13 @@ impl<F: FileSystem + Drop> FolderShelf<F> {
     fn opened(&mut self, name: &str) -> Result<F::File, FileFault>
         ensures system { shelf_system self.new ≡ shelf_system self.old }
         ensures failed { shelf_failures self.new ≡ shelf_failures self.old }
-        ensures opens { IsTrue (F.disk (shelf_system self.old)).tells → MatchResult result
+        ensures opens { Seen F.disk (λ see. MatchResult result
             (λ file. Opens name.now (F.key file) (F.position file) (F.opened_as file)
-            (F.disk (shelf_system self.old)).tree)
+            (see (shelf_system self.old)).tree)
             (λ fault. (fault ≡ FileFault.Memory → ⊥) →
-            IsAbsent name.now (F.disk (shelf_system self.old)).tree) }
-        ensures recorded { IsTrue (F.disk (shelf_system self.old)).tells → IfOk result (λ file.
-            IfSome (shelf_read self.new) (λ keys. IsTrue (is_among keys (F.key file)))) }
+            IsAbsent name.now (see (shelf_system self.old)).tree)) }
+        ensures recorded { Seen F.disk (λ _. IfOk result (λ file.
+            IfSome (shelf_read self.new) (λ keys. IsTrue (is_among keys (F.key file))))) }
         ensures kept { KeepsRead (shelf_read self.old) (shelf_read self.new) }
     {
         let file = self.fs.open(name)?;

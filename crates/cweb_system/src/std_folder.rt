@@ -1,5 +1,5 @@
 // The files of the system as a file system. Their state isn't observable in contracts.
-ghost use Rattle.std.specs.Prelude.{◌≡◌, ◌≤◌, ◌%◌, [], None, false, true, length, IfOk};
+ghost use Rattle.std.specs.Prelude.{◌≡◌, ◌≤◌, ◌%◌, [], None, length, IfOk};
 ghost use Rattle.std.specs.Io.KnownBytes.{ReadConsumes};
 ghost use Rattle.cweb_system.specs.inner.StreamCalls.{WritesPart};
 
@@ -149,12 +149,7 @@ fn node_of(found: &Metadata) -> Node {
 impl<R: Files<File: LockableFile> + Drop> FileSystem for StdFolder<R> {
     type File = R::File;
 
-    ghost disk = { λ _. record {
-      tells = false;
-      tree = record { place = λ p. p; node = λ p. None; target = λ p. None; bytes = λ k. [] };
-      past = [];
-      failed = true;
-    } };
+    ghost disk = { None };
 
     ghost key = { λ _. record { device = 0; number = 0 } };
 

@@ -7,7 +7,7 @@ use Rattle.cweb_system.specs.declared.node.Node.{Node}
 use Rattle.cweb_system.specs.declared.run_files.RunFiles.{RunFiles}
 use Rattle.cweb_system.specs.declared.written.WrittenFile.{WrittenFile}
 use Rattle.cweb_system.specs.FileSet.{keys_in}
-use Rattle.cweb_system.specs.Steps.{AreDecent, Disk, IsDraftPlace}
+use Rattle.cweb_system.specs.Steps.{AreDecent, Disk, IsDraftPlace, Seen}
 use Rattle.cweb_system.specs.Tree.{Tree, at, IsFile, Removes}
 use Rattle.cweb_system.specs.inner.Keys.{is_among}
 use Rattle.cweb_system.specs.inner.Written.{HasFiles, HasNameAlone, IsNew, IsUnnamed, Leaves}
@@ -16,16 +16,16 @@ use Rattle.cweb_system.specs.inner.Written.{HasFiles, HasNameAlone, IsNew, IsUnn
 abbrev pub IsDraftAlone : FileKey → Tree → Type 0
 IsDraftAlone key tree = (p : List ℕ) → IsFile key (tree.node p) → IsDraftPlace tree p
 
--- Calls whose steps are decent. Whether the state is observable stays, and no failure is forgotten.
-pub record KeepsDecent (read : List FileKey) (old new : Disk) : Type 0 where
-  pub tells : new.tells ≡ old.tells
-  pub steps : IsTrue old.tells → AreDecent read old.tree old.past → AreDecent read new.tree new.past
-  pub failed : IsTrue old.tells → IsTrue old.failed → IsTrue new.failed
+-- Calls whose steps are decent. No failure is forgotten.
+pub record KeepsDecent {F : Type 0} (disk : Option (F → Disk)) (read : List FileKey) (old new : F) : Type 0 where
+  pub steps : Seen disk (λ see. AreDecent read (see old).tree (see old).past
+      → AreDecent read (see new).tree (see new).past)
+  pub failed : Seen disk (λ see. IsTrue (see old).failed → IsTrue (see new).failed)
 
 -- Calls whose steps are decent and leave the committed files alone.
-pub record LeavesFiles (files : RunFiles) (old new : Disk) : Type 0 where
-  pub decent : KeepsDecent (keys_in files.read) old new
-  pub leaves : IsTrue old.tells → Leaves files.written.items old.tree new.tree
+pub record LeavesFiles {F : Type 0} (disk : Option (F → Disk)) (files : RunFiles) (old new : F) : Type 0 where
+  pub decent : KeepsDecent disk (keys_in files.read) old new
+  pub leaves : Seen disk (λ see. Leaves files.written.items (see old).tree (see new).tree)
 
 -- A file has one name.
 abbrev pub IsAlone : FileKey → List ℕ → Tree → Type 0
@@ -49,9 +49,10 @@ pub record DraftIsThere {H : Type 0} (key : H → FileKey) (written : List Writt
   pub alone : IsAlone draft.key (string_bytes draft.path) tree
 
 -- The committed files and the draft are there, as far as contracts know.
-pub record HasDraft {H : Type 0} (key : H → FileKey) (run : RunFiles) (begun : Draft H) (disk : Disk) : Type 0 where
-  pub files : HasFiles run.written.items disk
-  pub draft : IsTrue disk.tells → DraftIsThere key run.written.items begun disk.tree
+pub record HasDraft {F H : Type 0} (disk : Option (F → Disk)) (key : H → FileKey) (run : RunFiles) (begun : Draft H)
+    (fs : F) : Type 0 where
+  pub files : HasFiles disk fs run.written.items
+  pub draft : Seen disk (λ see. DraftIsThere key run.written.items begun (see fs).tree)
 
 -- The file of a draft can be recorded when it is committed.
 abbrev pub CanPut : RunFiles → FileKey → Type 0
@@ -68,10 +69,10 @@ pub record IsApart (name : List ℕ) (key : FileKey) (files : RunFiles) (tree : 
   pub others : (found : FileKey) → IsFile found (at tree name) → HasNameAlone name found files.written.items
 
 -- The entry under a path is removed in a decent step, or nothing changes.
-pub record Clears (path : List ℕ) (old new : Disk) : Type 0 where
-  pub decent : (read : List FileKey) → KeepsDecent read old new
-  pub place : IsTrue old.tells → new.tree.place ≡ old.tree.place
-  pub removes : IsTrue old.tells → Removes path old.tree new.tree ⊎ (new.tree ≡ old.tree)
+pub record Clears {F : Type 0} (disk : Option (F → Disk)) (path : List ℕ) (old new : F) : Type 0 where
+  pub decent : (read : List FileKey) → KeepsDecent disk read old new
+  pub place : Seen disk (λ see. (see new).tree.place ≡ (see old).tree.place)
+  pub removes : Seen disk (λ see. Removes path (see old).tree (see new).tree ⊎ ((see new).tree ≡ (see old).tree))
 
 -- What is at `path` now has this key and the permissions of the file that was under `name`.
 abbrev pub KeepsMode : List ℕ → List ℕ → FileKey → Tree → Tree → Type 0
@@ -93,13 +94,12 @@ IsReplaceable files name (Some _) = ⊥
 
 -- `P` holds if nothing is in the way of an output's draft.
 abbrev pub IfCanBegin : RunFiles → List ℕ → Disk → Type 0 → Type 0
-IfCanBegin files name disk P = IsTrue disk.tells → IsReplaceable files name (at disk.tree name)
+IfCanBegin files name disk P = IsReplaceable files name (at disk.tree name)
     → IsClearable files (at disk.tree (name ++ 127 ∷ [])) → P
 
 -- `P` holds if nothing is in the way of a commit.
 abbrev pub IfCanPlace : {H : Type 0} → RunFiles → Draft H → Disk → Type 0 → Type 0
-IfCanPlace files draft disk P = IsTrue disk.tells
-    → IsReplaceable files (string_bytes draft.name) (at disk.tree (string_bytes draft.name))
+IfCanPlace files draft disk P = IsReplaceable files (string_bytes draft.name) (at disk.tree (string_bytes draft.name))
     → (IsFile draft.key (at disk.tree (string_bytes draft.name)) → ⊥) → P
 
 -- An error that isn't for want of memory comes from a failed call.
@@ -107,23 +107,19 @@ abbrev pub HasCause : {A : Type 0} → Bool → Result A FileFault → Type 0
 HasCause failed result = IfErr result (λ fault. (fault ≡ FileFault.Memory → ⊥) → IsTrue failed)
 
 -- The committed files are left alone. If a draft's path can be cleared, an error has a cause.
-pub record Prepares {A : Type 0} (path : List ℕ) (files : RunFiles) (old new : Disk) (result : Result A FileFault)
-    : Type 0 where
-  pub leaves : LeavesFiles files old new
-  pub cause : IsTrue old.tells → IsClearable files (at old.tree path) → HasCause new.failed result
+pub record Prepares {F A : Type 0} (disk : Option (F → Disk)) (path : List ℕ) (files : RunFiles) (old new : F)
+    (result : Result A FileFault) : Type 0 where
+  pub leaves : LeavesFiles disk files old new
+  pub cause : Seen disk (λ see. IsClearable files (at (see old).tree path) → HasCause (see new).failed result)
 
 -- If nothing is in the way of a commit, a call has failed where it does. A file was committed under the draft's name
 -- only if it may be replaced.
-pub record AnswersCommit {H : Type 0} (files : RunFiles) (draft : Draft H) (old new : Disk)
+pub record AnswersCommit {F H : Type 0} (disk : Option (F → Disk)) (files : RunFiles) (draft : Draft H) (old new : F)
     (result : Result Bool FileFault) : Type 0 where
-  pub cause : IfCanPlace files draft old (OnErr result (IsTrue new.failed))
-  pub first : IsTrue old.tells → IfOk result (λ replaces. replaces ≡ false
-      → IsUnnamed (string_bytes draft.name) files.written.items)
+  pub cause : Seen disk (λ see. IfCanPlace files draft (see old) (OnErr result (IsTrue (see new).failed)))
+  pub first : Seen disk (λ _. IfOk result (λ replaces. replaces ≡ false
+      → IsUnnamed (string_bytes draft.name) files.written.items))
 
 -- Nothing is at a path, or a call has failed.
 abbrev pub IsCleared : List ℕ → Disk → Type 0
 IsCleared path disk = (at disk.tree path ≡ None) ⊎ IsTrue disk.failed
-
--- A call that succeeds has cleared a path.
-abbrev pub Frees : {A : Type 0} → List ℕ → Disk → Disk → Result A FileFault → Type 0
-Frees path old new result = IsTrue old.tells → OnOk result (IsCleared path new)

@@ -1,13 +1,13 @@
 -- A shelf over a file system.
 use Rattle.std.specs.Prelude.{ℕ, List, [], Option, option_map}
 use Rattle.cweb_files.specs.Shelves.{ShelfContents, ShelfModel}
-use Rattle.cweb_files.specs.Sinks.{known}
 use Rattle.cweb_system.specs.declared.file_system.FileSystem.{Ghosts as FileSystem}
 use Rattle.cweb_system.specs.declared.node.FileKey.{FileKey}
 use Rattle.cweb_system.specs.declared.shelf.FolderShelf.{FolderShelf}
 use Rattle.cweb_system.specs.FileSet.{keys_in}
 use Rattle.cweb_system.specs.Bins.{contents_in}
-use Rattle.cweb_system.specs.Tree.{rest}
+use Rattle.cweb_system.specs.Steps.{Disk}
+use Rattle.cweb_system.specs.Tree.{Tree, rest}
 
 abbrev pub shelf_system : {F H : Type 0} {system : FileSystem F H} → FolderShelf F H system → F
 shelf_system shelf = shelf.fs
@@ -20,8 +20,8 @@ abbrev pub shelf_read : {F H : Type 0} {system : FileSystem F H} → FolderShelf
 shelf_read shelf = option_map keys_in shelf.read
 
 -- What can be read. No read fails.
-abbrev pub shelf_contents : {F H : Type 0} (system : FileSystem F H) → FolderShelf F H system → ShelfContents H
-shelf_contents system shelf = let tree = (system.disk shelf.fs).tree in record {
+abbrev pub shelf_contents : {F H : Type 0} → FileSystem F H → Tree → ShelfContents H
+shelf_contents system tree = record {
   texts = contents_in tree;
   left = λ reader. rest tree (system.key reader) (system.position reader);
   opened_as = system.opened_as;
@@ -29,7 +29,7 @@ shelf_contents system shelf = let tree = (system.disk shelf.fs).tree in record {
 }
 
 abbrev pub shelf_model : {F H : Type 0} (system : FileSystem F H) → FolderShelf F H system → ShelfModel H
-shelf_model system shelf = record {
+shelf_model {F = F} system shelf = record {
   failed = shelf.failed;
-  contents = known (system.disk shelf.fs).tells (shelf_contents system shelf);
+  contents = option_map (λ (see : F → Disk). shelf_contents system (see shelf.fs).tree) system.disk;
 }

@@ -1,8 +1,8 @@
 -- Committed files in a tree.
-use Rattle.std.specs.Prelude.{◌≡◌, ℕ, List, All, IsTrue, string_bytes}
+use Rattle.std.specs.Prelude.{◌≡◌, ℕ, List, All, Option, string_bytes}
 use Rattle.cweb_system.specs.declared.node.FileKey.{FileKey}
 use Rattle.cweb_system.specs.declared.written.WrittenFile.{WrittenFile}
-use Rattle.cweb_system.specs.Steps.{Disk}
+use Rattle.cweb_system.specs.Steps.{Disk, Seen}
 use Rattle.cweb_system.specs.Tree.{Tree, at, IsFile}
 
 -- Each file that was committed is there, under its name.
@@ -10,8 +10,8 @@ abbrev pub FilesAreThere : Tree → List WrittenFile → Type 0
 FilesAreThere tree written = All (λ (w : WrittenFile). IsFile w.key (at tree (string_bytes w.name))) written
 
 -- They are there in an observable file system.
-abbrev pub HasFiles : List WrittenFile → Disk → Type 0
-HasFiles written disk = IsTrue disk.tells → FilesAreThere disk.tree written
+abbrev pub HasFiles : {F : Type 0} → Option (F → Disk) → F → List WrittenFile → Type 0
+HasFiles disk fs written = Seen disk (λ see. FilesAreThere (see fs).tree written)
 
 -- No committed file has this key.
 abbrev pub IsNew : FileKey → List WrittenFile → Type 0

@@ -1,6 +1,7 @@
 // Drafts are put in place, or discarded.
 ghost use Rattle.std.specs.Prelude.{◌≡◌, None, Some, IsTrue, IsOk, IfOk, OnOk, OnErr, string_bytes};
 ghost use Rattle.cweb_system.specs.FileSet.{keys_in};
+ghost use Rattle.cweb_system.specs.Steps.{Seen};
 ghost use Rattle.cweb_system.specs.Tree.{IsFile, at};
 ghost use Rattle.cweb_system.specs.inner.Drafts.{AnswersCommit, DraftIsThere, HasDraft, IsApart, IsCleared, KeepsDecent};
 ghost use Rattle.cweb_system.specs.inner.Drafts.{KeepsMode, LeavesFiles};
@@ -20,21 +21,19 @@ pub fn put_in_place<F: FileSystem>(
     draft: &Draft<F::File>,
     files: &RunFiles,
 ) -> Result<bool, FileFault>
-    requires { HasDraft F.key files.now draft.now (F.disk fs.old) }
-    ensures decent { KeepsDecent (keys_in files.now.read) (F.disk fs.old) (F.disk fs.new) }
-    ensures ok { IsTrue (F.disk fs.old).tells → OnOk result
-        (Places (string_bytes draft.now.name) draft.now.key files.now.written.items
-        (F.disk fs.old).tree (F.disk fs.new).tree) }
-    ensures err { IsTrue (F.disk fs.old).tells → OnErr result
-        (Leaves files.now.written.items (F.disk fs.old).tree (F.disk fs.new).tree) }
-    ensures stays { IsTrue (F.disk fs.old).tells → OnErr result
-        (DraftIsThere F.key files.now.written.items draft.now (F.disk fs.new).tree) }
-    ensures mode { IsTrue (F.disk fs.old).tells → OnOk result
-        (KeepsMode (string_bytes draft.now.name) (string_bytes draft.now.name) draft.now.key
-        (F.disk fs.old).tree (F.disk fs.new).tree) }
-    ensures gone { IsTrue (F.disk fs.old).tells → OnOk result
-        (at (F.disk fs.new).tree (string_bytes draft.now.path) ≡ None) }
-    ensures answers { AnswersCommit files.now draft.now (F.disk fs.old) (F.disk fs.new) result }
+    requires { HasDraft F.disk F.key files.now draft.now fs.old }
+    ensures decent { KeepsDecent F.disk (keys_in files.now.read) fs.old fs.new }
+    ensures ok { Seen F.disk (λ see. OnOk result (Places (string_bytes draft.now.name) draft.now.key
+        files.now.written.items (see fs.old).tree (see fs.new).tree)) }
+    ensures err { Seen F.disk (λ see. OnErr result (Leaves files.now.written.items (see fs.old).tree
+        (see fs.new).tree)) }
+    ensures stays { Seen F.disk (λ see. OnErr result (DraftIsThere F.key files.now.written.items
+        draft.now (see fs.new).tree)) }
+    ensures mode { Seen F.disk (λ see. OnOk result (KeepsMode (string_bytes draft.now.name)
+        (string_bytes draft.now.name) draft.now.key (see fs.old).tree (see fs.new).tree)) }
+    ensures gone { Seen F.disk (λ see. OnOk result (at (see fs.new).tree
+        (string_bytes draft.now.path) ≡ None)) }
+    ensures answers { AnswersCommit F.disk files.now draft.now fs.old fs.new result }
 {
     if draft.is_device {
         return Ok(true);
@@ -47,10 +46,10 @@ pub fn put_in_place<F: FileSystem>(
 
 /// The permissions of the draft. It is an error if it isn't there.
 fn own_mode<F: FileSystem>(fs: &F, draft: &Draft<F::File>) -> Result<u32, FileFault>
-    ensures ok { IsTrue (F.disk fs.now).tells → IfOk result (λ mode. at (F.disk fs.now).tree
-        (string_bytes draft.now.path) ≡ Some (Node.File draft.now.key mode)) }
-    ensures never { IsTrue (F.disk fs.now).tells →
-        IsFile draft.now.key (at (F.disk fs.now).tree (string_bytes draft.now.path)) → IsOk result }
+    ensures ok { Seen F.disk (λ see. IfOk result (λ mode. at (see fs.now).tree
+        (string_bytes draft.now.path) ≡ Some (Node.File draft.now.key mode))) }
+    ensures never { Seen F.disk (λ see. IsFile draft.now.key
+        (at (see fs.now).tree (string_bytes draft.now.path)) → IsOk result) }
 {
     match fs.look(draft.path.as_str()) {
         Some(Node::File(key, mode)) if key == draft.key => Ok(mode),
@@ -67,19 +66,18 @@ fn keep_mode<F: FileSystem>(
     mode: u32,
     files: &RunFiles,
 ) -> Result<bool, FileFault>
-    requires { HasDraft F.key files.now draft.now (F.disk fs.old) }
-    ensures leaves { LeavesFiles files.now (F.disk fs.old) (F.disk fs.new) }
-    ensures stays { IsTrue (F.disk fs.old).tells →
-        DraftIsThere F.key files.now.written.items draft.now (F.disk fs.new).tree }
-    ensures bytes { IsTrue (F.disk fs.old).tells →
-        (F.disk fs.new).tree.bytes ≡ (F.disk fs.old).tree.bytes }
-    ensures mode { IsTrue (F.disk fs.old).tells → at (F.disk fs.old).tree
-        (string_bytes draft.now.path) ≡ Some (Node.File draft.now.key mode) →
-        OnOk result (KeepsMode (string_bytes draft.now.name)
-        (string_bytes draft.now.path) draft.now.key (F.disk fs.old).tree (F.disk fs.new).tree) }
-    ensures apart { IsTrue (F.disk fs.old).tells → OnOk result
-        (IsApart (string_bytes draft.now.name) draft.now.key files.now (F.disk fs.new).tree) }
-    ensures answers { AnswersCommit files.now draft.now (F.disk fs.old) (F.disk fs.new) result }
+    requires { HasDraft F.disk F.key files.now draft.now fs.old }
+    ensures leaves { LeavesFiles F.disk files.now fs.old fs.new }
+    ensures stays { Seen F.disk (λ see. DraftIsThere F.key files.now.written.items draft.now
+        (see fs.new).tree) }
+    ensures bytes { Seen F.disk (λ see. (see fs.new).tree.bytes ≡ (see fs.old).tree.bytes) }
+    ensures mode { Seen F.disk (λ see.
+        at (see fs.old).tree (string_bytes draft.now.path) ≡ Some (Node.File draft.now.key mode) →
+        OnOk result (KeepsMode (string_bytes draft.now.name) (string_bytes draft.now.path)
+        draft.now.key (see fs.old).tree (see fs.new).tree)) }
+    ensures apart { Seen F.disk (λ see. OnOk result (IsApart (string_bytes draft.now.name)
+        draft.now.key files.now (see fs.new).tree)) }
+    ensures answers { AnswersCommit F.disk files.now draft.now fs.old fs.new result }
 {
     match fs.look(draft.name.as_str()) {
         Some(Node::File(found, kept)) => {
@@ -101,10 +99,9 @@ fn keep_mode<F: FileSystem>(
 
 /// Deletes the draft. Another file that has its path by now stays.
 pub fn discard<F: FileSystem>(fs: &mut F, draft: Draft<F::File>, files: &RunFiles)
-    requires { HasDraft F.key files.now draft (F.disk fs.old) }
-    ensures leaves { LeavesFiles files.now (F.disk fs.old) (F.disk fs.new) }
-    ensures gone { IsTrue (F.disk fs.old).tells →
-        IsCleared (string_bytes draft.path) (F.disk fs.new) }
+    requires { HasDraft F.disk F.key files.now draft fs.old }
+    ensures leaves { LeavesFiles F.disk files.now fs.old fs.new }
+    ensures gone { Seen F.disk (λ see. IsCleared (string_bytes draft.path) (see fs.new)) }
 {
     if !draft.is_device && is_at(fs, draft.path.as_str(), draft.key) {
         let path = DraftPath {

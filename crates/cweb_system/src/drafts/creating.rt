@@ -3,8 +3,9 @@ ghost use Rattle.std.specs.Prelude.{◌≡◌, None, Some, Ok, List, Contains, I
 ghost use Rattle.std.specs.Prelude.{true};
 ghost use Rattle.cweb_system.specs.declared.node.FileKey.{FileKey};
 ghost use Rattle.cweb_system.specs.FileSet.{keys_in};
+ghost use Rattle.cweb_system.specs.Steps.{Seen};
 ghost use Rattle.cweb_system.specs.Tree.{IsFile, at};
-ghost use Rattle.cweb_system.specs.inner.Drafts.{Begins, Clears, Frees, HasCause, IsCleared, LeavesFiles, Prepares};
+ghost use Rattle.cweb_system.specs.inner.Drafts.{Begins, Clears, HasCause, IsCleared, LeavesFiles, Prepares};
 ghost use Rattle.cweb_system.specs.inner.Written.{HasFiles};
 
 use crate::drafts::DraftPath;
@@ -24,10 +25,10 @@ pub fn created<F: FileSystem>(
     mode: Option<u32>,
     files: &RunFiles,
 ) -> Result<(F::File, FileKey), FileFault>
-    requires { HasFiles files.now.written.items (F.disk fs.old) }
-    ensures leaves { Prepares path.entry.text.now files.now (F.disk fs.old) (F.disk fs.new) result }
-    ensures begun { IsTrue (F.disk fs.old).tells → IfOk result (λ made. Begins path.entry.text.now
-        (F.key made.0) made.1 files.now.written.items (F.disk fs.new).tree) }
+    requires { HasFiles F.disk fs.old files.now.written.items }
+    ensures leaves { Prepares F.disk path.entry.text.now files.now fs.old fs.new result }
+    ensures begun { Seen F.disk (λ see. IfOk result (λ made. Begins path.entry.text.now
+        (F.key made.0) made.1 files.now.written.items (see fs.new).tree)) }
 {
     for _ in 0..TURNS {
         if let Some(made) = created_now(fs, path, mode, files)? {
@@ -44,15 +45,15 @@ fn created_now<F: FileSystem>(
     mode: Option<u32>,
     files: &RunFiles,
 ) -> Result<Option<(F::File, FileKey)>, FileFault>
-    requires { HasFiles files.now.written.items (F.disk fs.old) }
-    ensures leaves { Prepares path.entry.text.now files.now (F.disk fs.old) (F.disk fs.new) result }
-    ensures begun { IsTrue (F.disk fs.old).tells → IfOk result (λ tried. IfSome tried
-        (λ made. Begins path.entry.text.now (F.key made.0) made.1 files.now.written.items
-        (F.disk fs.new).tree)) }
-    ensures gone { IsTrue (F.disk fs.old).tells → IfOk result (λ tried. tried ≡ None →
-        IsCleared path.entry.text.now (F.disk fs.new)) }
-    ensures free { IsTrue (F.disk fs.old).tells →
-        at (F.disk fs.old).tree path.entry.text.now ≡ None → IfOk result IsSome }
+    requires { HasFiles F.disk fs.old files.now.written.items }
+    ensures leaves { Prepares F.disk path.entry.text.now files.now fs.old fs.new result }
+    ensures begun { Seen F.disk (λ see. IfOk result (λ tried.
+        IfSome tried (λ made. Begins path.entry.text.now (F.key made.0) made.1
+        files.now.written.items (see fs.new).tree))) }
+    ensures gone { Seen F.disk (λ see. IfOk result (λ tried. tried ≡ None →
+        IsCleared path.entry.text.now (see fs.new))) }
+    ensures free { Seen F.disk (λ see. at (see fs.old).tree path.entry.text.now ≡ None →
+        IfOk result IsSome) }
 {
     match create_at(fs, path, mode)? {
         Some(file) => match locked(fs, path, &file)? {
@@ -72,11 +73,9 @@ fn locked<F: FileSystem>(
     path: DraftPath<'_>,
     file: &F::File,
 ) -> Result<Option<FileKey>, FileFault>
-    requires { IsTrue (F.disk fs.old).tells →
-        IsFile (F.key file.now) (at (F.disk fs.old).tree path.text.now) }
-    ensures tells { (F.disk fs.new).tells ≡ (F.disk fs.old).tells }
-    ensures same { IsTrue (F.disk fs.old).tells → F.disk fs.new ≡ F.disk fs.old }
-    ensures key { IsTrue (F.disk fs.old).tells → result ≡ Ok (Some (F.key file.now)) }
+    requires { Seen F.disk (λ see. IsFile (F.key file.now) (at (see fs.old).tree path.text.now)) }
+    ensures same { Seen F.disk (λ see. see fs.new ≡ see fs.old) }
+    ensures key { Seen F.disk (λ _. result ≡ Ok (Some (F.key file.now))) }
 {
     // A system without locks is no error.
     let _ = fs.lock(file);
@@ -91,9 +90,8 @@ fn locked<F: FileSystem>(
 
 /// The identity of an open file, if a path names that file.
 fn key_at<F: FileSystem>(fs: &F, path: &str, file: &F::File) -> Result<Option<FileKey>, FileFault>
-    ensures { IsTrue (F.disk fs.now).tells →
-        IsFile (F.key file.now) (at (F.disk fs.now).tree path.now) →
-        result ≡ Ok (Some (F.key file.now)) }
+    ensures { Seen F.disk (λ see. IsFile (F.key file.now) (at (see fs.now).tree path.now) →
+        result ≡ Ok (Some (F.key file.now))) }
 {
     let key = fs.key_of(file)?;
     match fs.look(path) {
@@ -105,12 +103,12 @@ fn key_at<F: FileSystem>(fs: &F, path: &str, file: &F::File) -> Result<Option<Fi
 
 /// Removes a leftover at the draft's path. It is an error if a folder is there, or a file that was read or written.
 fn clear<F: FileSystem>(fs: &mut F, path: DraftPath<'_>, files: &RunFiles) -> Result<(), FileFault>
-    requires { HasFiles files.now.written.items (F.disk fs.old) }
-    ensures leaves { Prepares path.entry.text.now files.now (F.disk fs.old) (F.disk fs.new) result }
-    ensures read { IsTrue (F.disk fs.old).tells → (key : FileKey) →
-        IsFile key (at (F.disk fs.old).tree path.entry.text.now) →
-        Contains (keys_in files.now.read) key → IsErr result }
-    ensures gone { Frees path.entry.text.now (F.disk fs.old) (F.disk fs.new) result }
+    requires { HasFiles F.disk fs.old files.now.written.items }
+    ensures leaves { Prepares F.disk path.entry.text.now files.now fs.old fs.new result }
+    ensures read { Seen F.disk (λ see. (key : FileKey) →
+        IsFile key (at (see fs.old).tree path.entry.text.now) →
+        Contains (keys_in files.now.read) key → IsErr result) }
+    ensures gone { Seen F.disk (λ see. OnOk result (IsCleared path.entry.text.now (see fs.new))) }
 {
     match fs.look(path.text) {
         None => Ok(()),
@@ -133,10 +131,10 @@ fn clear_other<F: FileSystem>(
     path: DraftPath<'_>,
     files: &RunFiles,
 ) -> Result<(), FileFault>
-    requires { IsTrue (F.disk fs.old).tells → (key : FileKey) →
-        IsFile key (at (F.disk fs.old).tree path.text.now) → ⊥ }
-    ensures leaves { LeavesFiles files.now (F.disk fs.old) (F.disk fs.new) }
-    ensures gone { Frees path.entry.text.now (F.disk fs.old) (F.disk fs.new) result }
+    requires { Seen F.disk (λ see. (key : FileKey) →
+        IsFile key (at (see fs.old).tree path.text.now) → ⊥) }
+    ensures leaves { LeavesFiles F.disk files.now fs.old fs.new }
+    ensures gone { Seen F.disk (λ see. OnOk result (IsCleared path.entry.text.now (see fs.new))) }
 {
     if is_read(fs, path.text, &files.read) {
         return Err(FileFault::Other);
@@ -160,13 +158,11 @@ fn clear_file<F: FileSystem>(
     path: DraftPath<'_>,
     left: FileKey,
 ) -> Result<(), FileFault>
-    ensures clears { Clears path.entry.text.now (F.disk fs.old) (F.disk fs.new) }
-    ensures gone { IsTrue (F.disk fs.old).tells →
-        IsFile left (at (F.disk fs.old).tree path.entry.text.now) →
-        OnOk result (IsCleared path.entry.text.now (F.disk fs.new)) }
-    ensures cause { IsTrue (F.disk fs.old).tells →
-        IsFile left (at (F.disk fs.old).tree path.entry.text.now) →
-        HasCause (F.disk fs.new).failed result }
+    ensures clears { Clears F.disk path.entry.text.now fs.old fs.new }
+    ensures gone { Seen F.disk (λ see. IsFile left (at (see fs.old).tree path.entry.text.now) →
+        OnOk result (IsCleared path.entry.text.now (see fs.new))) }
+    ensures cause { Seen F.disk (λ see. IsFile left (at (see fs.old).tree path.entry.text.now) →
+        HasCause (see fs.new).failed result) }
 {
     let (is_there, _held) = locked_left(fs, path.text, left)?;
     if is_there {
@@ -181,10 +177,10 @@ fn locked_left<F: FileSystem>(
     path: &str,
     left: FileKey,
 ) -> Result<(bool, Option<F::File>), FileFault>
-    ensures there { IsTrue (F.disk fs.now).tells → IsFile left (at (F.disk fs.now).tree path.now) →
-        IfOk result (λ found. found.0 ≡ true) }
-    ensures memory { IsTrue (F.disk fs.now).tells → IsFile left (at (F.disk fs.now).tree path.now) →
-        IfErr result (λ fault. fault ≡ FileFault.Memory) }
+    ensures there { Seen F.disk (λ see. IsFile left (at (see fs.now).tree path.now) →
+        IfOk result (λ found. found.0 ≡ true)) }
+    ensures memory { Seen F.disk (λ see. IsFile left (at (see fs.now).tree path.now) →
+        IfErr result (λ fault. fault ≡ FileFault.Memory)) }
 {
     match fs.open(path) {
         Ok(file) => {
@@ -200,9 +196,9 @@ fn locked_left<F: FileSystem>(
 
 /// Removes a leftover at a draft's path, if it is still there.
 fn remove_left<F: FileSystem>(fs: &mut F, path: DraftPath<'_>) -> Result<(), FileFault>
-    ensures clears { Clears path.entry.text.now (F.disk fs.old) (F.disk fs.new) }
-    ensures gone { Frees path.entry.text.now (F.disk fs.old) (F.disk fs.new) result }
-    ensures cause { IsTrue (F.disk fs.old).tells → HasCause (F.disk fs.new).failed result }
+    ensures clears { Clears F.disk path.entry.text.now fs.old fs.new }
+    ensures gone { Seen F.disk (λ see. OnOk result (IsCleared path.entry.text.now (see fs.new))) }
+    ensures cause { Seen F.disk (λ see. HasCause (see fs.new).failed result) }
 {
     match remove_at(fs, path) {
         Err(FileFault::NotFound) => Ok(()),

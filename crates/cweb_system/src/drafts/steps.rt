@@ -1,8 +1,8 @@
 // The calls that change a file system, each with a decent step.
-ghost use Rattle.std.specs.Prelude.{ℕ, List, IsTrue, IfOk, IfSome, string_bytes};
+ghost use Rattle.std.specs.Prelude.{◌≡◌, ◌≤◌, ◌<◌, ℕ, List, IfOk, IfSome, length, string_bytes, take};
 ghost use Rattle.cweb_system.specs.declared.node.FileKey.{FileKey};
-ghost use Rattle.cweb_system.specs.Steps.{Changes, Writes};
-ghost use Rattle.cweb_system.specs.Tree.{IsFile, MayCreate, Removes, Renames, SetsMode, at};
+ghost use Rattle.cweb_system.specs.Steps.{Changes, Seen};
+ghost use Rattle.cweb_system.specs.Tree.{Appends, IsFile, MayCreate, Removes, Renames, SetsMode, at};
 ghost use Rattle.cweb_system.specs.inner.Drafts.{IsDraftAlone, IsUnread};
 ghost use Rattle.cweb_system.specs.inner.Drafts.{IsAlone, KeepsDecent};
 
@@ -16,49 +16,44 @@ pub fn create_at<F: FileSystem>(
     path: DraftPath<'_>,
     mode: Option<u32>,
 ) -> Result<Option<F::File>, FileFault>
-    ensures decent { (read : List FileKey) → KeepsDecent read (F.disk fs.old) (F.disk fs.new) }
-    ensures changes { Changes (MayCreate F.key path.entry.text.now)
-        (F.disk fs.old) (F.disk fs.new) result }
-    ensures alone { IsTrue (F.disk fs.old).tells → IfOk result (λ made. IfSome made (λ file.
-        IsAlone (F.key file) path.entry.text.now (F.disk fs.new).tree)) }
+    ensures decent { (read : List FileKey) → KeepsDecent F.disk read fs.old fs.new }
+    ensures changes { Changes F.disk (MayCreate F.key path.entry.text.now) fs.old fs.new result }
+    ensures alone { Seen F.disk (λ see. IfOk result (λ made.
+        IfSome made (λ file. IsAlone (F.key file) path.entry.text.now (see fs.new).tree))) }
 {
     fs.create(path.text, mode)
 }
 
 /// Removes what is at a draft's path.
 pub fn remove_at<F: FileSystem>(fs: &mut F, path: DraftPath<'_>) -> Result<(), FileFault>
-    ensures decent { (read : List FileKey) → KeepsDecent read (F.disk fs.old) (F.disk fs.new) }
-    ensures changes { Changes (λ _. Removes path.entry.text.now)
-        (F.disk fs.old) (F.disk fs.new) result }
+    ensures decent { (read : List FileKey) → KeepsDecent F.disk read fs.old fs.new }
+    ensures changes { Changes F.disk (λ _. Removes path.entry.text.now) fs.old fs.new result }
 {
     fs.remove(path.text)
 }
 
 /// Sets the permissions of a draft.
 pub fn set_draft_mode<F: FileSystem>(fs: &mut F, file: &F::File, mode: u32) -> Result<(), FileFault>
-    requires { IsTrue (F.disk fs.old).tells → IsDraftAlone (F.key file.now) (F.disk fs.old).tree }
-    ensures decent { (read : List FileKey) → KeepsDecent read (F.disk fs.old) (F.disk fs.new) }
-    ensures changes { Changes (λ _. SetsMode (F.key file.now) mode)
-        (F.disk fs.old) (F.disk fs.new) result }
-    ensures alone { IsTrue (F.disk fs.old).tells → (path : List ℕ) →
-        IsAlone (F.key file.now) path (F.disk fs.old).tree →
-        IsAlone (F.key file.now) path (F.disk fs.new).tree }
+    requires { Seen F.disk (λ see. IsDraftAlone (F.key file.now) (see fs.old).tree) }
+    ensures decent { (read : List FileKey) → KeepsDecent F.disk read fs.old fs.new }
+    ensures changes { Changes F.disk (λ _. SetsMode (F.key file.now) mode) fs.old fs.new result }
+    ensures alone { Seen F.disk (λ see. (path : List ℕ) → IsAlone (F.key file.now) path
+        (see fs.old).tree → IsAlone (F.key file.now) path (see fs.new).tree) }
 {
     fs.set_mode(file, mode)
 }
 
 /// Renames a draft. What it replaces isn't the draft itself.
 pub fn rename_draft<F: FileSystem>(fs: &mut F, draft: &Draft<F::File>) -> Result<(), FileFault>
-    requires there { IsTrue (F.disk fs.old).tells →
-        IsFile draft.now.key (at (F.disk fs.old).tree (string_bytes draft.now.path)) }
-    requires own { IsTrue (F.disk fs.old).tells →
-        IsFile draft.now.key (at (F.disk fs.old).tree (string_bytes draft.now.name)) → ⊥ }
-    ensures decent { (read : List FileKey) → (IsTrue (F.disk fs.old).tells →
-        IsUnread read (string_bytes draft.now.name) (F.disk fs.old).tree) →
-        KeepsDecent read (F.disk fs.old) (F.disk fs.new) }
-    ensures changes { Changes
-        (λ _. Renames (string_bytes draft.now.path) (string_bytes draft.now.name))
-        (F.disk fs.old) (F.disk fs.new) result }
+    requires there { Seen F.disk (λ see. IsFile draft.now.key
+        (at (see fs.old).tree (string_bytes draft.now.path))) }
+    requires own { Seen F.disk (λ see. IsFile draft.now.key
+        (at (see fs.old).tree (string_bytes draft.now.name)) → ⊥) }
+    ensures decent { (read : List FileKey) →
+        Seen F.disk (λ see. IsUnread read (string_bytes draft.now.name) (see fs.old).tree) →
+        KeepsDecent F.disk read fs.old fs.new }
+    ensures changes { Changes F.disk (λ _. Renames (string_bytes draft.now.path)
+        (string_bytes draft.now.name)) fs.old fs.new result }
 {
     fs.rename(draft.path.as_str(), draft.name.as_str())
 }
@@ -69,9 +64,13 @@ pub fn write_to<F: FileSystem>(
     file: &mut F::File,
     piece: &[u8],
 ) -> Result<usize, FileFault>
-    requires { IsTrue (F.disk fs.old).tells → IsDraftAlone (F.key file.old) (F.disk fs.old).tree }
-    ensures decent { (read : List FileKey) → KeepsDecent read (F.disk fs.old) (F.disk fs.new) }
-    ensures does { Writes F.key piece.now file.old file.new (F.disk fs.old) (F.disk fs.new) result }
+    requires { Seen F.disk (λ see. IsDraftAlone (F.key file.old) (see fs.old).tree) }
+    ensures decent { (read : List FileKey) → KeepsDecent F.disk read fs.old fs.new }
+    ensures within { IfOk result (λ n. n ≤ length piece.now) }
+    ensures some { 0 < length piece.now → IfOk result (λ n. 0 < n) }
+    ensures key { F.key file.new ≡ F.key file.old }
+    ensures changes { Changes F.disk (λ n. Appends (F.key file.old) (take n piece.now)) fs.old
+        fs.new result }
 {
     fs.write(file, piece)
 }

@@ -2,6 +2,7 @@
 ghost use Rattle.std.specs.Prelude.{◌≡◌, Contains, Some, Ok, IsTrue, IsErr};
 ghost use Rattle.cweb_system.specs.declared.node.FileKey.{FileKey};
 ghost use Rattle.cweb_system.specs.FileSet.{keys_in};
+ghost use Rattle.cweb_system.specs.Steps.{Seen};
 ghost use Rattle.cweb_system.specs.Tree.{IsFile, at};
 ghost use Rattle.cweb_system.specs.inner.Drafts.{IsReplaceable};
 ghost use Rattle.cweb_system.specs.inner.Written.{HasFiles};
@@ -26,17 +27,17 @@ pub enum Way {
 
 /// How an output of this name is written. A file that the run has read, or wrote under another name, is refused.
 pub fn way_to<F: FileSystem>(fs: &F, name: &str, files: &RunFiles) -> Result<Way, FileFault>
-    requires { HasFiles files.now.written.items (F.disk fs.now) }
-    ensures read { IsTrue (F.disk fs.now).tells → (key : FileKey) →
-        IsFile key (at (F.disk fs.now).tree name.now) →
-        Contains (keys_in files.now.read) key → IsErr result }
-    ensures free { IsTrue (F.disk fs.now).tells →
-        IsReplaceable files.now name.now (at (F.disk fs.now).tree name.now) →
-        (IsErr result → ⊥) × ((key : FileKey) → result ≡ Ok (Way.Device key) → ⊥) }
-    ensures folder { IsTrue (F.disk fs.now).tells → (key : FileKey) →
-        at (F.disk fs.now).tree name.now ≡ Some (Node.Folder key) → IsErr result }
-    ensures device { IsTrue (F.disk fs.now).tells → (key : FileKey) →
-        at (F.disk fs.now).tree name.now ≡ Some (Node.Device key) → result ≡ Ok (Way.Device key) }
+    requires { HasFiles F.disk fs.now files.now.written.items }
+    ensures read { Seen F.disk (λ see. (key : FileKey) →
+        IsFile key (at (see fs.now).tree name.now) →
+        Contains (keys_in files.now.read) key → IsErr result) }
+    ensures free { Seen F.disk (λ see.
+        IsReplaceable files.now name.now (at (see fs.now).tree name.now) →
+        (IsErr result → ⊥) × ((key : FileKey) → result ≡ Ok (Way.Device key) → ⊥)) }
+    ensures folder { Seen F.disk (λ see. (key : FileKey) →
+        at (see fs.now).tree name.now ≡ Some (Node.Folder key) → IsErr result) }
+    ensures device { Seen F.disk (λ see. (key : FileKey) →
+        at (see fs.now).tree name.now ≡ Some (Node.Device key) → result ≡ Ok (Way.Device key)) }
 {
     match fs.look(name) {
         None => Ok(Way::Draft(None)),

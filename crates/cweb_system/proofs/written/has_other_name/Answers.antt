@@ -6,13 +6,13 @@ use Rattle.cweb_system.specs.inner.Written.{HasNameAlone}
 use Rattle.cweb_system.proofs.written.has_other_name.Goals as goal
 
 pub loop-file-preserved : goal.loop-file-preserved
-loop-file-preserved g c = λ tells.
+loop-file-preserved g c = λ some.
     All-more (λ (w : WrittenFile). w.key ≡ c.args.key → string_bytes w.name ≡ c.args.name.now) c.args.written.now
-    c.loop-file.file-index c.file-item.result (omega arith) (c.loop-file.invariant tells)
+    c.loop-file.file-index c.file-item.result (omega arith) (c.loop-file.invariant some)
     (subst (λ (w : WrittenFile). w.key ≡ c.args.key → string_bytes w.name ≡ c.args.name.now) c.file-item.is
-    (c.is_other_name.ensures.value tells c.if-is_other_name.false))
+    (c.is_other_name.ensures.value c.if-is_other_name.false some))
 
 pub returns-clause-value : goal.returns-clause-value
-returns-clause-value g c = λ tells is.
+returns-clause-value g c = λ is some.
     subst (λ (ws : List WrittenFile). HasNameAlone c.args.name.now c.args.key ws)
-    (take_all c.loop-file.file-index c.args.written.now (omega arith)) (c.loop-file.invariant tells)
+    (take_all c.loop-file.file-index c.args.written.now (omega arith)) (c.loop-file.invariant some)

@@ -6,13 +6,13 @@ use Rattle.cweb_system.specs.declared.written.WrittenFile.{WrittenFile}
 use Rattle.cweb_system.proofs.written.is_written.Goals as goal
 
 pub loop-file-preserved : goal.loop-file-preserved
-loop-file-preserved g c = λ tells.
+loop-file-preserved g c = λ some.
     All-more (λ (w : WrittenFile). w.key ≡ c.args.key → ⊥) c.args.written.now
-    c.loop-file.file-index c.file-item.result (omega arith) (c.loop-file.invariant tells)
+    c.loop-file.file-index c.file-item.result (omega arith) (c.loop-file.invariant some)
     (subst (λ (w : WrittenFile). w.key ≡ c.args.key → ⊥) c.file-item.is
-    (c.is_of_key.ensures.value tells c.if-is_of_key.false))
+    (c.is_of_key.ensures.value c.if-is_of_key.false some))
 
 pub returns-clause-value : goal.returns-clause-value
-returns-clause-value g c = λ tells is.
+returns-clause-value g c = λ is some.
     subst (λ (ws : List WrittenFile). All (λ (w : WrittenFile). w.key ≡ c.args.key → ⊥) ws)
-    (take_all c.loop-file.file-index c.args.written.now (omega arith)) (c.loop-file.invariant tells)
+    (take_all c.loop-file.file-index c.args.written.now (omega arith)) (c.loop-file.invariant some)

@@ -1,40 +1,60 @@
-use Rattle.std.proofs.Common.{◌∙◌, Some, None}
+use Rattle.std.proofs.Common.{◌≡◌, ◌∙◌, ◌+◌, ap, map, refl, rules, List, Some, None}
+use Rattle.std.specs.Prelude.{option_map}
+use Rattle.std.specs.Option.{unwrap_or}
 use Rattle.cweb_files.specs.Bins.{refusal}
-use Rattle.cweb_system.specs.Bins.{draft_bytes}
+use Rattle.cweb_files.specs.Sinks.{SinkContents, SinkModel, with_draft, with_refusal}
+use Rattle.cweb_files.specs.declared.bins.BinFault.TheVariants.{Device}
+use Rattle.cweb_system.specs.Bins.{draft_bytes, draft_name, folder_model}
+use Rattle.cweb_system.specs.Steps.{nothing_seen}
+use Rattle.cweb_system.proofs.Models.{after_discard, refused_device, refused_memory}
 use Rattle.cweb_system.proofs.Views.{files_then}
 use Rattle.cweb_system.proofs.bins.Folder.start.Goals as goal
 
 pub returns-in-Ok-clause-begun : goal.returns-in-Ok-clause-begun
-returns-in-Ok-clause-begun g c = λ tells.
-    let kept = c.abandon.ensures.keeps.decent.tells ∙ tells in
-    let gone = c.abandon.ensures.gone tells in
-    let files = files_then c.begin.ensures.written (c.abandon.new.self.sound.files kept)
-    (c.begin.ensures.leaves.leaves kept) (λ i. (gone i).beside.files) in
+returns-in-Ok-clause-begun g c =
+    after_discard g.F.FileSystem.disk _ _ _ (with_draft c.args.name.now) (λ now. refl) c.abandon.ensures.gone
+    (ap (λ (m : SinkModel). m.failed) c.abandon.ensures.gone) (λ some.
+    let files = files_then c.begin.ensures.written (c.abandon.new.self.sound.files some)
+    (c.begin.ensures.leaves.leaves some) in
     λ i. record {
-      bytes = (c.in-Ok.ensures.begun kept).1 i;
+      bytes = (c.in-Ok.ensures.begun some).1 i;
       beside = record { files = files i; draft = Some (c.in-Ok.ensures.named i); refused = None };
-    }
+    })
 
 pub returns-then-eq-clause-err : goal.returns-then-eq-clause-err
-returns-then-eq-clause-err g c = λ tells.
-    let kept = c.abandon.ensures.keeps.decent.tells ∙ tells in
-    let gone = c.abandon.ensures.gone tells in
-    let files = files_then c.begin.ensures.written (c.abandon.new.self.sound.files kept)
-    (c.begin.ensures.leaves.leaves kept) (λ i. (gone i).beside.files) in
+returns-then-eq-clause-err g c =
+    let fault = c.bin_fault-fault.result in
+    let is : fault ≡ Device = search rules in
+    after_discard g.F.FileSystem.disk _ _ _ (with_refusal (refusal fault)) (λ now. refl) c.abandon.ensures.gone
+    (ap (λ (m : SinkModel). m.failed + 1) c.abandon.ensures.gone) (λ some.
+    let see = unwrap_or g.F.FileSystem.disk nothing_seen in
+    let files = files_then c.begin.ensures.written (c.abandon.new.self.sound.files some)
+    (c.begin.ensures.leaves.leaves some) in
     λ i. record {
-      bytes = draft_bytes (g.F.FileSystem.disk c.begin.new.fs).tree (c.abandon.ensures.none i);
-      beside =
-          record { files = files i; draft = (gone i).beside.draft; refused = Some (refusal c.bin_fault-fault.result) };
-    }
+      bytes = draft_bytes (see c.begin.new.fs).tree (c.abandon.ensures.none i);
+      beside = record {
+        files = files i;
+        draft = option_map draft_name (c.abandon.ensures.none i);
+        refused = Some (refusal fault);
+      };
+    })
+    ∙ refused_device fault (folder_model g.F.FileSystem c.args.self.now) is
 
 pub returns-else-eq-clause-err : goal.returns-else-eq-clause-err
-returns-else-eq-clause-err g c = λ tells.
-    let kept = c.abandon.ensures.keeps.decent.tells ∙ tells in
-    let gone = c.abandon.ensures.gone tells in
-    let files = files_then c.begin.ensures.written (c.abandon.new.self.sound.files kept)
-    (c.begin.ensures.leaves.leaves kept) (λ i. (gone i).beside.files) in
+returns-else-eq-clause-err g c =
+    let fault = c.bin_fault-fault.result in
+    let apart : fault ≡ Device → ⊥ = search rules in
+    after_discard g.F.FileSystem.disk _ _ _ (with_refusal (refusal fault)) (λ now. refl) c.abandon.ensures.gone
+    (ap (λ (m : SinkModel). m.failed) c.abandon.ensures.gone) (λ some.
+    let see = unwrap_or g.F.FileSystem.disk nothing_seen in
+    let files = files_then c.begin.ensures.written (c.abandon.new.self.sound.files some)
+    (c.begin.ensures.leaves.leaves some) in
     λ i. record {
-      bytes = draft_bytes (g.F.FileSystem.disk c.begin.new.fs).tree (c.abandon.ensures.none i);
-      beside =
-          record { files = files i; draft = (gone i).beside.draft; refused = Some (refusal c.bin_fault-fault.result) };
-    }
+      bytes = draft_bytes (see c.begin.new.fs).tree (c.abandon.ensures.none i);
+      beside = record {
+        files = files i;
+        draft = option_map draft_name (c.abandon.ensures.none i);
+        refused = Some (refusal fault);
+      };
+    })
+    ∙ refused_memory fault (folder_model g.F.FileSystem c.args.self.now) apart

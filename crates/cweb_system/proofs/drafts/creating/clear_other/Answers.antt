@@ -4,4 +4,4 @@ use Rattle.cweb_system.proofs.drafts.creating.clear_other.Goals as goal
 
 pub returns-clause-leaves : goal.returns-clause-leaves
 returns-clause-leaves g c = clearing c.args.files.now c.args.path.text.now _ _ c.remove_left.ensures.clears
-    (λ tells k d within. c.requires tells (slice_index_or c.args.files.now.written.items k d).key)
+    (λ some k d within. c.requires some (slice_index_or c.args.files.now.written.items k d).key)

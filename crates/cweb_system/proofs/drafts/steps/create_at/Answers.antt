@@ -4,9 +4,9 @@ use Rattle.cweb_system.proofs.drafts.steps.create_at.Goals as goal
 
 pub returns-clause-decent : goal.returns-clause-decent
 returns-clause-decent g c read = keeps read (MayCreate g.F.FileSystem.key c.args.path.text.now) c.create.ensures
-    (λ tells made. may_create_decent read g.F.FileSystem.key c.args.path.text.now made _ _
+    (λ some made. may_create_decent read g.F.FileSystem.key c.args.path.text.now made _ _
     (c.args.path.name.now, c.args.path.is_draft))
 
 pub returns-clause-alone : goal.returns-clause-alone
-returns-clause-alone g c tells = alone_created g.F.FileSystem.key c.args.path.text.now _ _ c.create.result
-    (c.create.ensures.place tells) (c.create.ensures.ok tells)
+returns-clause-alone g c some = alone_created g.F.FileSystem.key c.args.path.text.now _ _ c.create.result
+    (c.create.ensures.place some) (c.create.ensures.ok some)

@@ -8,4 +8,4 @@ pub returns-clause-decent : goal.returns-clause-decent
 returns-clause-decent g c read =
     let key : FileKey = g.F.FileSystem.key c.args.file.now in
     keeps read (λ n. Appends key (take n c.args.piece.now)) c.write.ensures.changes
-    (λ tells n. appends_decent read key (take n c.args.piece.now) _ _ (c.requires tells))
+    (λ some n. appends_decent read key (take n c.args.piece.now) _ _ (c.requires some))

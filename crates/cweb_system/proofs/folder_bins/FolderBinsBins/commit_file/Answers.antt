@@ -3,5 +3,5 @@ use Rattle.cweb_system.proofs.folder_bins.FolderBinsBins.commit_file.Goals as go
 
 pub invariant_of-self : goal.invariant_of-self
 invariant_of-self g c = record {
-  steps = steps_kept g.F.FileSystem _ c.commit.new.self c.commit.ensures.uses.keeps c.args.self.now.steps;
+  steps = steps_kept g.F.FileSystem _ c.commit.new.self c.commit.ensures.keeps c.args.self.now.steps;
 }

@@ -1,0 +1,50 @@
+-- The model of bins after a call that changes what is seen of them.
+use Rattle.std.proofs.Common.{◌≡◌, ◌∙◌, ◌+◌, ℕ, ap, refl, Option, Some, None}
+use Rattle.std.specs.Prelude.{option_map}
+use Rattle.cweb_files.specs.Bins.{refusal, refused}
+use Rattle.cweb_files.specs.Sinks.{SinkContents, SinkModel, changed, failing, with_refusal, without_draft}
+use Rattle.cweb_files.specs.declared.bins.BinFault.{BinFault}
+use Rattle.cweb_files.specs.declared.bins.BinFault.TheVariants.{Memory, Device}
+use Rattle.cweb_system.specs.Steps.{Disk, Seen}
+
+abbrev pub as_model : ℕ → Option SinkContents → SinkModel
+as_model failed contents = record { failed = failed; contents = contents }
+
+pub model_is : {F : Type 0} (disk : Option (F → Disk)) (old new : (F → Disk) → SinkContents)
+    (change : SinkContents → SinkContents) {failed count : ℕ} → failed ≡ count
+    → Seen disk (λ see. new see ≡ change (old see))
+    → as_model failed (option_map new disk) ≡ as_model count (option_map change (option_map old disk))
+model_is {F = F} disk old new change counts is = λ i. as_model (counts i) (by_view disk is i)
+  where
+    by_view : (disk : Option (F → Disk)) → Seen disk (λ see. new see ≡ change (old see))
+        → option_map new disk ≡ option_map change (option_map old disk)
+    by_view None is = refl
+    by_view (Some see) is = ap Some (is refl)
+
+-- A draft was discarded first. The change doesn't depend on that.
+pub after_discard : {F : Type 0} (disk : Option (F → Disk)) (old mid new : (F → Disk) → SinkContents)
+    (change : SinkContents → SinkContents) {before between failed count : ℕ}
+    → ((now : SinkContents) → change (without_draft now) ≡ change now)
+    → as_model between (option_map mid disk) ≡ changed without_draft (as_model before (option_map old disk))
+    → failed ≡ count → Seen disk (λ see. new see ≡ change (mid see))
+    → as_model failed (option_map new disk) ≡ as_model count (option_map change (option_map old disk))
+after_discard disk old mid new change {count = count} same gone counts is =
+    model_is disk mid new change counts is
+    ∙ ap (λ (m : SinkModel). as_model count (option_map change m.contents)) gone
+    ∙ ap (as_model count) (again (option_map old disk))
+  where
+    again : (contents : Option SinkContents)
+        → option_map change (option_map without_draft contents) ≡ option_map change contents
+    again None = refl
+    again (Some now) = ap Some (same now)
+
+-- A refused draft, by the fault.
+pub refused_device : (fault : BinFault) (bins : SinkModel) → fault ≡ Device
+    → failing (with_refusal (refusal fault)) bins ≡ refused fault bins
+refused_device Device bins is = refl
+refused_device Memory bins is = absurd (cc)
+
+pub refused_memory : (fault : BinFault) (bins : SinkModel) → (fault ≡ Device → ⊥)
+    → changed (with_refusal (refusal fault)) bins ≡ refused fault bins
+refused_memory Memory bins apart = refl
+refused_memory Device bins apart = absurd (apart refl)
