@@ -1,5 +1,5 @@
 -- What calls for drafts leave.
-use Rattle.std.proofs.Common.{◌≡◌, ◌⊎◌, ◌∙◌, IsTrue, ⊎_elim, slice_index_or, ℕ, List, Bool, true, false, refl, sym, ap, subst, Option, Some, string_bytes}
+use Rattle.std.proofs.Common.{◌≡◌, ◌⊎◌, ◌∙◌, ⊎_elim, slice_index_or, ℕ, List, Bool, true, false, refl, sym, ap, subst, Option, Some, string_bytes}
 use Rattle.std.specs.Prelude.{All}
 use Rattle.cweb_system.specs.declared.drafts.path.Draft.{Draft}
 use Rattle.cweb_system.specs.declared.node.FileKey.{FileKey}

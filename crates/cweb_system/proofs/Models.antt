@@ -1,5 +1,5 @@
 -- The model of bins after a call that changes what is seen of them.
-use Rattle.std.proofs.Common.{◌≡◌, ◌∙◌, ◌+◌, ℕ, ap, refl, Option, Some, None}
+use Rattle.std.proofs.Common.{◌≡◌, ◌∙◌, ℕ, ap, refl, Option, Some, None}
 use Rattle.std.specs.Prelude.{option_map}
 use Rattle.cweb_files.specs.Bins.{refusal, refused}
 use Rattle.cweb_files.specs.Sinks.{SinkContents, SinkModel, changed, failing, with_refusal, without_draft}

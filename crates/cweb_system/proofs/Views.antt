@@ -5,7 +5,7 @@ use Rattle.std.proofs.lemmas.List.Elements.{All-nil, All-cons, All-head, All-tai
 use Rattle.std.proofs.lemmas.Slice.Eq.{bytes_eq-Decides}
 use Rattle.std.specs.Prelude.{All, filter}
 use Rattle.std.specs.Str.{bytes_eq}
-use Rattle.cweb_files.specs.Files.{File, put_file, without}
+use Rattle.cweb_files.specs.Files.{put_file, without}
 use Rattle.cweb_system.specs.declared.node.FileKey.{FileKey}
 use Rattle.cweb_system.specs.declared.node.Node.{Node}
 use Rattle.cweb_system.specs.declared.written.WrittenFile.{WrittenFile}

@@ -42,7 +42,7 @@ impl MemoryFolder {
     /// A file system without entries.
     pub fn new(alloc: Global, layout: Layout) -> Self
         ensures { memory_disk result
-            ≡ record { tells = true; tree = tree_of layout []; past = []; failed = false } }
+            ≡ record { tree = tree_of layout []; past = []; failed = false } }
     {
         MemoryFolder {
             alloc,
@@ -56,7 +56,7 @@ impl MemoryFolder {
     /// The same files, as the beginning of a run.
     pub fn begin_run(self) -> Self
         ensures { memory_disk result
-            ≡ record { tells = true; tree = memory_tree self; past = []; failed = false } }
+            ≡ record { tree = memory_tree self; past = []; failed = false } }
     {
         let MemoryFolder {
             alloc,

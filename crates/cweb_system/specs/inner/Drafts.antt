@@ -1,5 +1,5 @@
 -- Drafts in a tree, and what the calls for them do.
-use Rattle.std.specs.Prelude.{◌≡◌, ◌<◌, ◌⊎◌, ℕ, List, [], ◌∷◌, ◌++◌, Bool, Contains, IfErr, IfOk, IsTrue, OnErr, OnOk, Option, Result, Some, None, ⊤, false, string_bytes, vec_len, vec_capacity}
+use Rattle.std.specs.Prelude.{◌≡◌, ◌<◌, ◌⊎◌, ℕ, List, [], ◌∷◌, ◌++◌, Bool, Contains, IfErr, IfOk, IsTrue, OnErr, Option, Result, Some, None, ⊤, false, string_bytes, vec_len, vec_capacity}
 use Rattle.cweb_system.specs.declared.drafts.path.Draft.{Draft}
 use Rattle.cweb_system.specs.declared.node.FileFault.{FileFault}
 use Rattle.cweb_system.specs.declared.node.FileKey.{FileKey}

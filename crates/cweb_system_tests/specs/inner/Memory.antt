@@ -1,5 +1,5 @@
 -- The state of a file system in memory.
-use Rattle.std.specs.Prelude.{ℕ, Bool, List, drop, string_bytes, take, true}
+use Rattle.std.specs.Prelude.{ℕ, Bool, List, drop, string_bytes, take}
 use Rattle.cweb_system_tests.specs.declared.memory_folder.layout.Layout.{Layout}
 use Rattle.cweb_system_tests.specs.declared.memory_folder.MemoryFile.{MemoryFile}
 use Rattle.cweb_system_tests.specs.declared.memory_folder.MemoryFolder.{MemoryFolder}
@@ -22,7 +22,6 @@ handle_key handle = handle.key
 
 abbrev pub memory_disk : MemoryFolder → Disk
 memory_disk folder = record {
-  tells = true;
   tree = memory_tree folder;
   past = past_by folder.layout (take folder.begun folder.log.items) (drop folder.begun folder.log.items);
   failed = folder.failed;

@@ -4,11 +4,12 @@ use crate::memory_folder::{MemoryFile, MemoryFolder};
 use cweb_system::{FileFault, FileKey, FileSystem, Node};
 
 impl FileSystem for MemoryFolder {
+    ghost use Rattle.std.specs.Prelude.{Some};
     ghost use Rattle.cweb_system_tests.specs.inner.Memory.{memory_disk, handle_key, handle_name, handle_position};
 
     type File = MemoryFile;
 
-    ghost disk = { memory_disk };
+    ghost disk = { Some memory_disk };
 
     ghost key = { handle_key };
 

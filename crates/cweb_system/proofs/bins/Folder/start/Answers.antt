@@ -1,8 +1,8 @@
-use Rattle.std.proofs.Common.{◌≡◌, ◌∙◌, ◌+◌, ap, map, refl, rules, List, Some, None}
+use Rattle.std.proofs.Common.{◌≡◌, ◌∙◌, ◌+◌, ap, refl, rules, Some, None}
 use Rattle.std.specs.Prelude.{option_map}
 use Rattle.std.specs.Option.{unwrap_or}
 use Rattle.cweb_files.specs.Bins.{refusal}
-use Rattle.cweb_files.specs.Sinks.{SinkContents, SinkModel, with_draft, with_refusal}
+use Rattle.cweb_files.specs.Sinks.{SinkModel, with_draft, with_refusal}
 use Rattle.cweb_files.specs.declared.bins.BinFault.TheVariants.{Device}
 use Rattle.cweb_system.specs.Bins.{draft_bytes, draft_name, folder_model}
 use Rattle.cweb_system.specs.Steps.{nothing_seen}

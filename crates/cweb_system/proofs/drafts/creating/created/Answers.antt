@@ -1,4 +1,4 @@
-use Rattle.std.proofs.Common.{◌≡◌, ◌∙◌, inl, inr, ⊎_elim, subst, ap, rules, false, true, None, Option, ◌+◌, ℕ}
+use Rattle.std.proofs.Common.{◌≡◌, inl, inr, ⊎_elim, subst, ap, rules, false, true, None, Option, ◌+◌, ℕ}
 use Rattle.std.specs.Prelude.{IsSome}
 use Rattle.cweb_system.proofs.Files.{leaves_files_then}
 use Rattle.cweb_system.proofs.drafts.creating.created.Goals as goal

@@ -1,4 +1,4 @@
-use Rattle.std.proofs.Common.{◌≡◌, ◌∷◌, ◌++◌, [], ap, refl, sym, subst}
+use Rattle.std.proofs.Common.{◌≡◌, ◌∷◌, ◌++◌, [], ap, sym, subst}
 use Rattle.cweb_system_tests.specs.declared.memory_folder.log.Change.TheVariants.{SetMode}
 use Rattle.cweb_system.specs.Tree.{Tree, SetsMode}
 use Rattle.cweb_system_tests.specs.inner.Layout.{place_in}
@@ -10,13 +10,12 @@ use Rattle.cweb_system_tests.proofs.memory_folder.calls.MemoryFolderFileSystem.s
 
 pub returns : goal.returns
 returns c = record {
-  tells = refl;
-  ok = λ tells. let folder = c.args.self.now in let key = c.args.file.now.key in on_ok c.make.result _ _
+  ok = λ some. let folder = c.args.self.now in let key = c.args.file.now.key in on_ok c.make.result _ _
       (λ (e : memory_tree c.make.new.self ≡ tree_of folder.layout (folder.log.items ++ SetMode key c.args.mode ∷ [])).
       subst (λ (t : Tree). SetsMode (handle_key c.args.file.now) c.args.mode (memory_tree folder) t) (sym e)
       (sets_mode folder.layout folder.log.items key c.args.mode)) c.make.ensures.ok;
-  err = λ tells. c.make.ensures.err;
-  place = λ tells. ap place_in c.make.ensures.layout;
-  step = λ tells. c.make.ensures.step;
-  failed = λ tells. c.make.ensures.failed;
+  err = λ some. c.make.ensures.err;
+  place = λ some. ap place_in c.make.ensures.layout;
+  step = λ some. c.make.ensures.step;
+  failed = λ some. c.make.ensures.failed;
 }
