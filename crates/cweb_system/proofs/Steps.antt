@@ -77,9 +77,6 @@ changes_then {A = A} one other old new r c then = record {
     along (Ok x) case is = case x is
     along (Err e) case is = tt
 
-pub keeps_none : {F : Type 0} (disk : Option (F → Disk)) (read : List FileKey) (fs : F) → KeepsDecent disk read fs fs
-keeps_none disk read fs = record { steps = λ some all. all; failed = λ some is. is }
-
 pub keeps_then : {F : Type 0} {disk : Option (F → Disk)} {read : List FileKey} {a b c : F} → KeepsDecent disk read a b
     → KeepsDecent disk read b c → KeepsDecent disk read a c
 keeps_then first then = record {

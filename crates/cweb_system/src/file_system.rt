@@ -8,9 +8,9 @@ use crate::node::{FileFault, FileKey, Node};
 
 /// A file system.
 ///
-/// If it is observable, only the calls of one run change it. A call that fails changes nothing. Not in the model are
-/// other writers and their locks, devices, loss of power, and a link to a folder that an output replaces while the path
-/// of another output goes through it.
+/// A type of file systems is observable or not. Only the calls of one run change an observable one. A call that fails
+/// changes nothing. Not in the model are other writers and their locks, devices, loss of power, and a link to a folder
+/// that an output replaces while the path of another output goes through it.
 pub trait FileSystem {
     /// An open file.
     type File: Drop;

@@ -1,5 +1,5 @@
 // The files of a file system as a shelf.
-ghost use Rattle.std.specs.Prelude.{◌≡◌, [], None, Some, IsTrue, IfOk, IfSome, MatchResult, length, option_map};
+ghost use Rattle.std.specs.Prelude.{◌≡◌, [], None, Some, IsTrue, IsSome, IfOk, IfSome, MatchResult, length, option_map};
 ghost use Rattle.std.specs.Option.{unwrap_or};
 ghost use Rattle.std.proofs.Props.{props};
 ghost use Rattle.cweb_system.specs.FileSet.{keys_in};
@@ -22,7 +22,7 @@ pub struct FolderShelf<F: FileSystem + Drop> {
     read: Option<FileSet>,
     failed: u64,
     /// In an observable file system no read fails.
-    ghost whole: { Seen F.disk (λ _. failed ≡ 0) } by { Prim.hlevel props },
+    ghost whole: { IsSome F.disk → failed ≡ 0 } by { Prim.hlevel props },
     /// Reading takes no step.
     ghost unchanged: { Seen F.disk (λ see. length (see fs).past ≡ 0) } by { Prim.hlevel props },
 }
