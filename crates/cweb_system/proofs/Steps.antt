@@ -1,7 +1,6 @@
 -- Each call is a decent step.
 use Rattle.std.proofs.Common.{◌≡◌, ◌∙◌, ◌⊎◌, inl, inr, ⊎_elim, ◌∷◌, ◌++◌, [], ℕ, List, Bool, true, false, refl, sym, ap, subst, Option, Some, None, IsTrue}
 use Rattle.std.specs.Prelude.{Result, Ok, Err, OnErr, IfOk, IfSome}
-use Rattle.std.specs.Option.{unwrap_or}
 use Rattle.std.specs.Str.{bytes_eq}
 use Rattle.std.proofs.lemmas.Slice.Eq.{bytes_eq-Decides}
 use Rattle.cweb_system.specs.declared.node.FileFault.{FileFault}
@@ -9,7 +8,7 @@ use Rattle.cweb_system.specs.declared.node.FileKey.{FileKey}
 use Rattle.cweb_system.specs.declared.node.Node.{Node}
 use Rattle.cweb_system.specs.Tree.{Tree, IsFile, bytes_of, Appends, Creates, MayCreate, Removes, Renames, SetsMode}
 use Rattle.cweb_system.specs.inner.Drafts.{IsAlone, KeepsDecent}
-use Rattle.cweb_system.specs.Steps.{AreDecent, Arrives, Changes, Disk, IsDecent, IsDraftPlace, NotesFailure, Seen, Stays, TakesStep, nothing_seen}
+use Rattle.cweb_system.specs.Steps.{AreDecent, Arrives, Changes, Disk, IsDecent, IsDraftPlace, NotesFailure, Seen, Stays, TakesStep, view}
 use Rattle.cweb_system.specs.inner.Drafts.{IsDraftAlone, IsUnread}
 
 -- Equal functions are equal at each argument.
@@ -52,7 +51,7 @@ pub keeps : {F A : Type 0} {disk : Option (F → Disk)} (read : List FileKey) (c
     → Seen disk (λ see. (x : A) → change x (see old).tree (see new).tree → IsDecent read (see old).tree (see new).tree)
     → KeepsDecent disk read old new
 keeps {F = F} {disk = disk} read change {old} {new} {r} c then =
-    let see : F → Disk = unwrap_or disk nothing_seen in
+    let see : F → Disk = view disk in
     record {
       steps = λ some. stepping read (see old) (see new) (c.step some)
           (by_result read change (see old).tree (see new).tree r (c.ok some) (c.err some) (then some));

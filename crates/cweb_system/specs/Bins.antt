@@ -2,6 +2,7 @@
 use Rattle.std.specs.Prelude.{ℕ, List, [], map, Option, Some, None, option_map, string_bytes}
 use Rattle.cweb_files.specs.Bins.{refusal}
 use Rattle.cweb_files.specs.Files.{File}
+use Rattle.cweb_files.specs.Shelves.{ShelfModel}
 use Rattle.cweb_files.specs.Sinks.{SinkContents, SinkModel}
 use Rattle.cweb_system.specs.declared.bins.Folder.{Folder}
 use Rattle.cweb_system.specs.declared.drafts.path.Draft.{Draft}
@@ -11,11 +12,23 @@ use Rattle.cweb_system.specs.declared.node.FileKey.{FileKey}
 use Rattle.cweb_system.specs.declared.written.WrittenFile.{WrittenFile}
 use Rattle.cweb_system.specs.FileSet.{keys_in}
 use Rattle.cweb_system.specs.Steps.{Disk}
-use Rattle.cweb_system.specs.Tree.{Tree, contents}
+use Rattle.cweb_system.specs.Tree.{Tree, contents, rest}
 
 -- The contents of each file that can be opened, by its path.
 abbrev pub contents_in : Tree → List ℕ → Option (List ℕ)
 contents_in tree path = option_map tree.bytes (tree.target path)
+
+-- A shelf over a file system that has counted no failure. No read of an observable file system fails.
+abbrev pub new_shelf : {F H : Type 0} → FileSystem F H → F → ShelfModel H
+new_shelf {F = F} system fs = record {
+  failed = 0;
+  contents = option_map (λ (see : F → Disk). record {
+    texts = contents_in (see fs).tree;
+    left = λ reader. rest (see fs).tree (system.key reader) (system.position reader);
+    opened_as = system.opened_as;
+    blamed = [];
+  }) system.disk;
+}
 
 -- A committed file, as it is in the file system.
 abbrev pub file_in : Tree → WrittenFile → File

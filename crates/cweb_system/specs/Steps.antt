@@ -21,9 +21,12 @@ nothing_seen fs = record {
   failed = false;
 }
 
+abbrev pub view : {F : Type 0} → Option (F → Disk) → F → Disk
+view disk = unwrap_or disk nothing_seen
+
 -- If the file system is observable, this holds of what is seen of it.
 abbrev pub Seen : {F : Type 0} → Option (F → Disk) → ((F → Disk) → Type 0) → Type 0
-Seen disk Says = IsSome disk → Says (unwrap_or disk nothing_seen)
+Seen disk Says = IsSome disk → Says (view disk)
 
 -- A call takes one step or none.
 abbrev pub TakesStep : Disk → Disk → Type 0

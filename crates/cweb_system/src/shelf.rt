@@ -28,14 +28,14 @@ pub struct FolderShelf<F: FileSystem + Drop> {
 }
 
 impl<F: FileSystem + Drop> FolderShelf<F> {
-    ghost use Rattle.cweb_system.specs.Bins.{bins_model, bins_read, bins_system, empty_bins};
-    ghost use Rattle.cweb_system.specs.inner.ShelfState.{shelf_failures, shelf_read, shelf_system};
+    ghost use Rattle.cweb_system.specs.Bins.{bins_model, bins_read, bins_system, empty_bins, new_shelf};
+    ghost use Rattle.cweb_system.specs.inner.ShelfState.{shelf_model, shelf_read, shelf_system};
 
     /// A shelf that doesn't record what it opens.
     pub fn new(fs: F) -> Self
         requires { Seen F.disk (λ see. (see fs).past ≡ []) }
         ensures system { shelf_system result ≡ fs }
-        ensures failed { shelf_failures result ≡ 0 }
+        ensures model { shelf_model F.FileSystem result ≡ new_shelf F.FileSystem fs }
         ensures read { shelf_read result ≡ None }
     {
         FolderShelf {
@@ -49,7 +49,7 @@ impl<F: FileSystem + Drop> FolderShelf<F> {
     pub fn noting(fs: F, read: FileSet) -> Self
         requires { Seen F.disk (λ see. (see fs).past ≡ []) }
         ensures system { shelf_system result ≡ fs }
-        ensures failed { shelf_failures result ≡ 0 }
+        ensures model { shelf_model F.FileSystem result ≡ new_shelf F.FileSystem fs }
         ensures read { shelf_read result ≡ Some (keys_in read) }
     {
         FolderShelf {
@@ -76,7 +76,7 @@ impl<F: FileSystem + Drop> FolderShelf<F> {
     /// Opens a file and records it. It is an error if the system has no identity for the file.
     fn opened(&mut self, name: &str) -> Result<F::File, FileFault>
         ensures system { shelf_system self.new ≡ shelf_system self.old }
-        ensures failed { shelf_failures self.new ≡ shelf_failures self.old }
+        ensures model { shelf_model F.FileSystem self.new ≡ shelf_model F.FileSystem self.old }
         ensures opens { Seen F.disk (λ see. MatchResult result
             (λ file. Opens name.now (F.key file) (F.position file) (F.opened_as file)
             (see (shelf_system self.old)).tree)

@@ -1,17 +1,16 @@
 use Rattle.std.proofs.Common.{refl}
 use Rattle.std.specs.Prelude.{option_map}
-use Rattle.std.specs.Option.{unwrap_or}
 use Rattle.cweb_files.specs.Bins.{refusal}
 use Rattle.cweb_files.specs.Sinks.{without_draft}
 use Rattle.cweb_system.specs.Bins.{draft_bytes, draft_name}
-use Rattle.cweb_system.specs.Steps.{nothing_seen}
+use Rattle.cweb_system.specs.Steps.{view}
 use Rattle.cweb_system.proofs.Models.{model_is}
 use Rattle.cweb_system.proofs.Views.{files_left}
 use Rattle.cweb_system.proofs.bins.Folder.abandon.Goals as goal
 
 pub returns-in-Some-clause-gone : goal.returns-in-Some-clause-gone
 returns-in-Some-clause-gone g c = model_is g.F.FileSystem.disk _ _ without_draft refl (λ some.
-    let see = unwrap_or g.F.FileSystem.disk nothing_seen in
+    let see = view g.F.FileSystem.disk in
     let left = files_left c.args.self.now.files.written.items (see c.args.self.now.fs).tree (see c.discard.new.fs).tree
     (c.args.self.now.sound.files some) (c.discard.ensures.leaves.leaves some) in
     λ i. record {

@@ -1,11 +1,10 @@
 use Rattle.std.proofs.Common.{◌≡◌, ◌++◌, refl, rules, sym, ◌∙◌, subst, Option}
 use Rattle.std.specs.Prelude.{option_map, take}
-use Rattle.std.specs.Option.{unwrap_or}
 use Rattle.cweb_files.specs.Bins.{refusal}
 use Rattle.cweb_files.specs.Sinks.{with_printed}
 use Rattle.cweb_system.specs.declared.drafts.path.Draft.{Draft}
 use Rattle.cweb_system.specs.Bins.{draft_bytes, draft_name}
-use Rattle.cweb_system.specs.Steps.{nothing_seen}
+use Rattle.cweb_system.specs.Steps.{view}
 use Rattle.cweb_system.specs.inner.FolderSound.{IsDraftSound}
 use Rattle.cweb_system.proofs.Models.{model_is}
 use Rattle.cweb_system.proofs.Views.{appending, files_left}
@@ -15,7 +14,7 @@ pub returns-in-Ok-clause-ok : goal.returns-in-Ok-clause-ok
 returns-in-Ok-clause-ok g c =
     let text = take c.in-Ok.n c.args.piece.now in
     model_is g.F.FileSystem.disk _ _ (with_printed text) refl (λ some.
-    let see = unwrap_or g.F.FileSystem.disk nothing_seen in
+    let see = view g.F.FileSystem.disk in
     let was = sym c.take.ensures.value ∙ c.in-Some.is in
     let sound = (subst (λ (o : Option (Draft g.row.F-File.Denot)). IsDraftSound g.F.FileSystem.disk g.F.FileSystem.key
     c.args.self.now.files o c.args.self.now.fs) was c.args.self.now.sound.draft).1 some in

@@ -1,13 +1,12 @@
 use Rattle.std.proofs.Common.{◌≡◌, ◌∙◌, ap, map, refl, rules, subst, sym, string_bytes, Option, Some}
 use Rattle.std.specs.Prelude.{option_map}
-use Rattle.std.specs.Option.{unwrap_or}
 use Rattle.cweb_files.specs.Bins.{refusal}
 use Rattle.cweb_files.specs.Files.{with_bytes}
 use Rattle.cweb_files.specs.Sinks.{committed, without_draft}
 use Rattle.cweb_system.specs.declared.drafts.path.Draft.{Draft}
 use Rattle.cweb_system.specs.declared.written.WrittenFile.{WrittenFile}
 use Rattle.cweb_system.specs.Bins.{draft_bytes, draft_name, file_in}
-use Rattle.cweb_system.specs.Steps.{nothing_seen}
+use Rattle.cweb_system.specs.Steps.{view}
 use Rattle.cweb_system.specs.inner.FolderSound.{IsDraftSound}
 use Rattle.cweb_system.specs.inner.Written.{Leaves}
 use Rattle.cweb_system.proofs.Models.{model_is}
@@ -16,7 +15,7 @@ use Rattle.cweb_system.proofs.bins.Folder.commit.Goals as goal
 
 pub returns-in_default-put_in_place-clause-err : goal.returns-in_default-put_in_place-clause-err
 returns-in_default-put_in_place-clause-err g c = model_is g.F.FileSystem.disk _ _ without_draft refl (λ some.
-    let see = unwrap_or g.F.FileSystem.disk nothing_seen in
+    let see = view g.F.FileSystem.disk in
     let ws = c.args.self.now.files.written.items in
     let old = (see c.args.self.now.fs).tree in
     let mid = (see c.put_in_place.new.fs).tree in
@@ -35,7 +34,7 @@ returns-in_default-put_in_place-clause-err g c = model_is g.F.FileSystem.disk _ 
 
 pub invariant_of-self-2 : goal.invariant_of-self-2
 invariant_of-self-2 g c =
-    let see = unwrap_or g.F.FileSystem.disk nothing_seen in
+    let see = view g.F.FileSystem.disk in
     let w : WrittenFile = record { name = c.in-Some.draft.name; key = c.in-Some.draft.key } in
     record {
       sound = record {
@@ -49,7 +48,7 @@ invariant_of-self-2 g c =
 
 pub returns-clause-ok : goal.returns-clause-ok
 returns-clause-ok g c = model_is g.F.FileSystem.disk _ _ committed refl (λ some.
-    let see = unwrap_or g.F.FileSystem.disk nothing_seen in
+    let see = view g.F.FileSystem.disk in
     let ws = c.args.self.now.files.written.items in
     let old = (see c.args.self.now.fs).tree in
     let new = (see c.put_in_place.new.fs).tree in

@@ -1,11 +1,10 @@
 use Rattle.std.proofs.Common.{◌≡◌, ◌∙◌, ◌+◌, ap, refl, rules, Some, None}
 use Rattle.std.specs.Prelude.{option_map}
-use Rattle.std.specs.Option.{unwrap_or}
 use Rattle.cweb_files.specs.Bins.{refusal}
 use Rattle.cweb_files.specs.Sinks.{SinkModel, with_draft, with_refusal}
 use Rattle.cweb_files.specs.declared.bins.BinFault.TheVariants.{Device}
 use Rattle.cweb_system.specs.Bins.{draft_bytes, draft_name, folder_model}
-use Rattle.cweb_system.specs.Steps.{nothing_seen}
+use Rattle.cweb_system.specs.Steps.{view}
 use Rattle.cweb_system.proofs.Models.{after_discard, refused_device, refused_memory}
 use Rattle.cweb_system.proofs.Views.{files_then}
 use Rattle.cweb_system.proofs.bins.Folder.start.Goals as goal
@@ -27,7 +26,7 @@ returns-then-eq-clause-err g c =
     let is : fault ≡ Device = search rules in
     after_discard g.F.FileSystem.disk _ _ _ (with_refusal (refusal fault)) (λ now. refl) c.abandon.ensures.gone
     (ap (λ (m : SinkModel). m.failed + 1) c.abandon.ensures.gone) (λ some.
-    let see = unwrap_or g.F.FileSystem.disk nothing_seen in
+    let see = view g.F.FileSystem.disk in
     let files = files_then c.begin.ensures.written (c.abandon.new.self.sound.files some)
     (c.begin.ensures.leaves.leaves some) in
     λ i. record {
@@ -46,7 +45,7 @@ returns-else-eq-clause-err g c =
     let apart : fault ≡ Device → ⊥ = search rules in
     after_discard g.F.FileSystem.disk _ _ _ (with_refusal (refusal fault)) (λ now. refl) c.abandon.ensures.gone
     (ap (λ (m : SinkModel). m.failed) c.abandon.ensures.gone) (λ some.
-    let see = unwrap_or g.F.FileSystem.disk nothing_seen in
+    let see = view g.F.FileSystem.disk in
     let files = files_then c.begin.ensures.written (c.abandon.new.self.sound.files some)
     (c.begin.ensures.leaves.leaves some) in
     λ i. record {

@@ -2,8 +2,7 @@ use Rattle.std.proofs.Common.{◌≡◌, ◌∙◌, List, ℕ, ap, sym, subst, s
 use Rattle.std.specs.Prelude.{Contains}
 use Rattle.cweb_system.specs.declared.node.FileKey.{FileKey}
 use Rattle.cweb_system.specs.FileSet.{keys_in}
-use Rattle.std.specs.Option.{unwrap_or}
-use Rattle.cweb_system.specs.Steps.{nothing_seen}
+use Rattle.cweb_system.specs.Steps.{view}
 use Rattle.cweb_system.specs.Tree.{IsFile, at}
 use Rattle.cweb_system.specs.inner.Written.{HasNameAlone}
 use Rattle.cweb_system.proofs.Files.{draft_set, set_back}
@@ -18,7 +17,7 @@ returns-in_ok-set_draft_mode-in-Some-File-clause-stays g c = λ some.
 
 pub returns-in_ok-set_draft_mode-in-Some-File-clause-apart : goal.returns-in_ok-set_draft_mode-in-Some-File-clause-apart
 returns-in_ok-set_draft_mode-in-Some-File-clause-apart g c = λ some.
-    let see = unwrap_or g.F.FileSystem.disk nothing_seen in
+    let see = view g.F.FileSystem.disk in
     let old = (see c.args.fs.now).tree in
     let new = (see c.set_draft_mode.new.fs).tree in
     let name = string_bytes c.args.draft.now.name in
