@@ -2,7 +2,8 @@
 //! `ctangle [options] webfile[.w] [{changefile[.ch]|-} [outfile[.c]]]`.
 #![tactic(auto)]
 
-ghost use Rattle.std.specs.Prelude.{◌≡◌, [], IsTrue};
+ghost use Rattle.std.specs.Prelude.{◌≡◌, []};
+ghost use Rattle.cweb_system.specs.Steps.{Seen};
 
 use cweb_tools::{
     FileSystem, ProgramEnvironment, StdFolder, StdSink, as_slices, out_of_memory, read_args,
@@ -20,7 +21,7 @@ fn main(rt: HostRuntime) -> ExitCode {
 
 /// Runs with the arguments, the environment and the files of the program. Returns the exit status.
 fn tangle<R: Env + AllocGlobal, F: FileSystem + Drop, L: Write + Drop>(rt: &R, fs: F, log: L) -> u8
-    requires { IsTrue (F.disk fs).tells → (F.disk fs).past ≡ [] }
+    requires { Seen F.disk (λ see. (see fs).past ≡ []) }
 {
     let mut log = StdSink::new(log);
     let env = ProgramEnvironment { runtime: rt };

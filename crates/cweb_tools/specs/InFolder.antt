@@ -1,19 +1,16 @@
 -- Runs in a folder.
-use Rattle.std.specs.Prelude.{◌≡◌, ℕ, List, [], IsSome, All}
+use Rattle.std.specs.Prelude.{◌≡◌, ℕ, List, IsSome, All}
 use Rattle.cweb_files.specs.Files.{File}
 use Rattle.cweb_system.specs.declared.file_system.FileSystem.{Ghosts as FileSystem}
-use Rattle.cweb_system.specs.Bins.{empty_bins}
+use Rattle.cweb_system.specs.Bins.{empty_bins, new_shelf}
 use Rattle.cweb_system.specs.Tree.{Tree, contents}
-use Rattle.cweb_log.specs.DeviceModels.{Devices, FailedReads}
-use Rattle.cweb_files.specs.Sinks.{SinkModel, known}
-
--- The shelf before a run.
-abbrev pub shelf_in : {F H : Type 0} → FileSystem F H → F → FailedReads
-shelf_in system fs = record { failed = 0; blamed = known (system.disk fs).tells [] }
+use Rattle.cweb_log.specs.DeviceModels.{Devices, FailedReads, failed_reads}
+use Rattle.cweb_files.specs.Sinks.{SinkModel}
 
 -- The devices before a run of `ctangle`: the files of a folder, and bins that have committed none.
 abbrev pub devices_before : {F H : Type 0} → FileSystem F H → F → SinkModel → Devices
-devices_before system fs log = record { shelf = shelf_in system fs; out = empty_bins system fs; log = log }
+devices_before system fs log =
+    record { shelf = failed_reads (new_shelf system fs); out = empty_bins system; log = log }
 
 -- A run in a folder keeps these promises. If the file system is observable, no read failed.
 pub record KeepsInFolder (Promises : Devices → Devices → ℕ → Type 0) (before : Devices) (out : SinkModel)

@@ -1,15 +1,15 @@
 // Runs in a folder.
-ghost use Rattle.std.specs.Prelude.{◌≡◌, ◌<◌, ◌+◌, ◌^◌, IsTrue, [], fold, map};
+ghost use Rattle.std.specs.Prelude.{◌≡◌, ◌<◌, ◌+◌, ◌^◌, [], fold, map};
 ghost use Rattle.cweb_files.specs.Files.{put_file};
 ghost use Rattle.std.specs.Option.{option_copied};
-ghost use Rattle.cweb_system.specs.Bins.{bins_model, bins_read, bins_system, contents_in};
-ghost use Rattle.cweb_system.specs.Steps.{AreDecent};
+ghost use Rattle.cweb_system.specs.Bins.{bins_model, bins_read, bins_system, new_shelf};
+ghost use Rattle.cweb_system.specs.Steps.{AreDecent, Seen};
 ghost use Rattle.cweb_log.specs.CommandLine.{options_by, web_names_by};
-ghost use Rattle.cweb_log.specs.DeviceModels.{SinkCountsFit};
+ghost use Rattle.cweb_log.specs.DeviceModels.{SinkCountsFit, contents_of, failed_reads};
 ghost use Rattle.cweb_tools.specs.Course.{world_of};
 ghost use Rattle.cweb_tools.specs.Depend.{DependPromises, DependsFreely, targets_by};
 ghost use Rattle.cweb_tools.specs.Headline.{RanFreely, written_files};
-ghost use Rattle.cweb_tools.specs.InFolder.{AreIn, KeepsInFolder, devices_before, shelf_in};
+ghost use Rattle.cweb_tools.specs.InFolder.{AreIn, KeepsInFolder, devices_before};
 ghost use Rattle.cweb_tools.specs.MergeActs.{MergePromises, MergesFreely};
 ghost use Rattle.cweb_tools.specs.Script.{TangleCourse, script};
 ghost use Rattle.cweb_tools.specs.Tangle.{IsTangleCourse, TanglePromises, shown_by};
@@ -32,25 +32,27 @@ pub fn tangle_in_folder<F: FileSystem + Drop, L: Sink>(
     fs: F,
     log: &mut L,
 ) -> (u8, FolderBins<F>)
-    requires begun { IsTrue (F.disk fs).tells → (F.disk fs).past ≡ [] }
+    requires begun { Seen F.disk (λ see. (see fs).past ≡ []) }
     requires count { (L.model log.old).failed + 1 < 2 ^ 64 }
     // If nothing failed, the folder has the files of the course, with their bytes.
     ensures files { let before = devices_before F.FileSystem fs (L.model log.old) in
         let args = options_by (map (λ word. word.now) words.now) in
-        let world = world_of (contents_in (F.disk fs).tree) (option_copied inputs.entry) in
-        IsTrue (F.disk fs).tells → (course : TangleCourse) → IsTangleCourse world args course →
+        let world = world_of (contents_of (new_shelf F.FileSystem fs)).texts
+        (option_copied inputs.entry) in
+        Seen F.disk (λ see. (course : TangleCourse) → IsTangleCourse world args course →
         RanFreely (script (shown_by args) course) before (record before {
           out = bins_model F.FileSystem result.1;
           log = L.model log.new;
         }) →
-        AreIn (F.disk (bins_system result.1)).tree
-        (fold put_file [] (written_files (script (shown_by args) course))) }
+        AreIn (see (bins_system result.1)).tree
+        (fold put_file [] (written_files (script (shown_by args) course)))) }
     // In any run, at each moment, each file that is no draft is the old one or a whole new one, and no file that was
     // read is replaced.
-    ensures moments { let disk = F.disk (bins_system result.1) in
-        ∥ (IsTrue disk.tells → AreDecent (bins_read result.1) disk.tree disk.past) ∥₁ }
+    ensures moments { ∥ (Seen F.disk (λ see. AreDecent (bins_read result.1)
+        (see (bins_system result.1)).tree (see (bins_system result.1)).past)) ∥₁ }
     ensures promises { let args = options_by (map (λ word. word.now) words.now) in
-        let world = world_of (contents_in (F.disk fs).tree) (option_copied inputs.entry) in
+        let world = world_of (contents_of (new_shelf F.FileSystem fs)).texts
+        (option_copied inputs.entry) in
         KeepsInFolder (TanglePromises world args)
         (devices_before F.FileSystem fs (L.model log.old))
         (bins_model F.FileSystem result.1) (L.model log.new) result.0 }
@@ -87,14 +89,15 @@ pub fn merge_in_folder<F: FileSystem + Drop, W: Sink, L: Sink>(
     out: &mut W,
     log: &mut L,
 ) -> u8
-    requires begun { IsTrue (F.disk fs).tells → (F.disk fs).past ≡ [] }
+    requires begun { Seen F.disk (λ see. (see fs).past ≡ []) }
     requires counts { SinkCountsFit (W.model out.old).failed (L.model log.old).failed }
     ensures promises { let args = web_names_by (map (λ word. word.now) words.now) in
-        let world = world_of (contents_in (F.disk fs).tree) (option_copied inputs.entry) in
+        let world = world_of (contents_of (new_shelf F.FileSystem fs)).texts
+        (option_copied inputs.entry) in
         KeepsInFolder (λ before after status.
         MergePromises world args before after status × MergesFreely world args before after status)
         (record {
-          shelf = shelf_in F.FileSystem fs;
+          shelf = failed_reads (new_shelf F.FileSystem fs);
           out = W.model out.old;
           log = L.model log.old;
         })
@@ -113,15 +116,16 @@ pub fn depend_in_folder<F: FileSystem + Drop, W: Sink, L: Sink>(
     out: &mut W,
     log: &mut L,
 ) -> u8
-    requires begun { IsTrue (F.disk fs).tells → (F.disk fs).past ≡ [] }
+    requires begun { Seen F.disk (λ see. (see fs).past ≡ []) }
     requires counts { SinkCountsFit (W.model out.old).failed (L.model log.old).failed }
     ensures promises { let args = options_by (map (λ word. word.now) words.now) in
-        let world = world_of (contents_in (F.disk fs).tree) (option_copied inputs.entry) in
+        let world = world_of (contents_of (new_shelf F.FileSystem fs)).texts
+        (option_copied inputs.entry) in
         let targets = targets_by (map (λ word. word.now) words.now) in
         KeepsInFolder (λ before after status. DependPromises world targets args before after status
         × DependsFreely world targets args before after status)
         (record {
-          shelf = shelf_in F.FileSystem fs;
+          shelf = failed_reads (new_shelf F.FileSystem fs);
           out = W.model out.old;
           log = L.model log.old;
         })

@@ -2,7 +2,8 @@
 //! `wdep [options] webfile[.w] [{changefile[.ch]|-} [outfile[.c]]]`.
 #![tactic(auto)]
 
-ghost use Rattle.std.specs.Prelude.{◌≡◌, [], IsTrue};
+ghost use Rattle.std.specs.Prelude.{◌≡◌, []};
+ghost use Rattle.cweb_system.specs.Steps.{Seen};
 
 use cweb_tools::{
     FileSystem, ProgramEnvironment, StdFolder, StdSink, about_wdep, as_slices, depend_in_folder,
@@ -28,7 +29,7 @@ fn depend<R: Env + AllocGlobal, F: FileSystem + Drop, W: Write + Drop, L: Write 
     out: W,
     log: L,
 ) -> u8
-    requires { IsTrue (F.disk fs).tells → (F.disk fs).past ≡ [] }
+    requires { Seen F.disk (λ see. (see fs).past ≡ []) }
 {
     let mut log = StdSink::new(log);
     let env = ProgramEnvironment { runtime: rt };

@@ -1,7 +1,8 @@
 //! `wmerge` prints the merged lines of a web, with a change file's changes: `wmerge webfile[.w] [{changefile[.ch]|-}]`.
 #![tactic(auto)]
 
-ghost use Rattle.std.specs.Prelude.{◌≡◌, [], IsTrue};
+ghost use Rattle.std.specs.Prelude.{◌≡◌, []};
+ghost use Rattle.cweb_system.specs.Steps.{Seen};
 
 use cweb_tools::{
     FileSystem, ProgramEnvironment, StdFolder, StdSink, as_slices, merge_in_folder, out_of_memory,
@@ -27,7 +28,7 @@ fn merge<R: Env + AllocGlobal, F: FileSystem + Drop, W: Write + Drop, L: Write +
     out: W,
     log: L,
 ) -> u8
-    requires { IsTrue (F.disk fs).tells → (F.disk fs).past ≡ [] }
+    requires { Seen F.disk (λ see. (see fs).past ≡ []) }
 {
     let mut log = StdSink::new(log);
     let env = ProgramEnvironment { runtime: rt };

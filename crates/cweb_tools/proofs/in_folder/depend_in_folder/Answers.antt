@@ -1,7 +1,7 @@
 use Rattle.cweb_tools.proofs.Common.{ℕ, List, Bor, map, option_copied}
 use Rattle.cweb_tools.specs.Depend.{DependPromises, DependsFreely, targets_by}
 use Rattle.cweb_tools.proofs.Courses.{options_in}
-use Rattle.cweb_tools.proofs.InFolder.{runs_in, stays_so}
+use Rattle.cweb_tools.proofs.InFolder.{runs_in}
 use Rattle.cweb_tools.proofs.in_folder.depend_in_folder.Goals as goal
 
 pub returns : goal.returns
@@ -15,8 +15,6 @@ returns g c =
           (option_copied c.args.inputs) c.new-shelf.result c.run_wdep.new.shelf
           (g.W.Sink.model c.args.out.now)
           (g.W.Sink.model c.run_wdep.new.out) (g.L.Sink.model c.args.log.now)
-          (g.L.Sink.model c.run_wdep.new.log) c.run_wdep.result c.new-shelf.ensures.system
-          c.new-shelf.ensures.failed
-          (stays_so g.F.FileSystem c.new-shelf.result c.run_wdep.new.shelf c.run_wdep.ensures.promises)
+          (g.L.Sink.model c.run_wdep.new.log) c.run_wdep.result c.new-shelf.ensures.model
           (c.run_wdep.ensures.promises, c.run_wdep.ensures.freely);
     }

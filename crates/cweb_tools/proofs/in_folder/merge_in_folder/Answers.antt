@@ -1,7 +1,7 @@
 use Rattle.cweb_tools.proofs.Common.{ℕ, List, Bor, map, option_copied}
 use Rattle.cweb_log.specs.CommandLine.{web_names_by}
 use Rattle.cweb_tools.specs.MergeActs.{MergePromises, MergesFreely}
-use Rattle.cweb_tools.proofs.InFolder.{runs_in, stays_so}
+use Rattle.cweb_tools.proofs.InFolder.{runs_in}
 use Rattle.cweb_tools.proofs.in_folder.merge_in_folder.Goals as goal
 
 pub returns : goal.returns
@@ -14,8 +14,6 @@ returns g c =
           (option_copied c.args.inputs) c.new-shelf.result c.run_wmerge.new.shelf
           (g.W.Sink.model c.args.out.now)
           (g.W.Sink.model c.run_wmerge.new.out) (g.L.Sink.model c.args.log.now)
-          (g.L.Sink.model c.run_wmerge.new.log) c.run_wmerge.result c.new-shelf.ensures.system
-          c.new-shelf.ensures.failed
-          (stays_so g.F.FileSystem c.new-shelf.result c.run_wmerge.new.shelf c.run_wmerge.ensures.promises)
+          (g.L.Sink.model c.run_wmerge.new.log) c.run_wmerge.result c.new-shelf.ensures.model
           (c.run_wmerge.ensures.promises, c.run_wmerge.ensures.freely);
     }
