@@ -1,11 +1,22 @@
 -- The model of bins after a call that changes what is seen of them.
-use Rattle.std.proofs.Common.{◌≡◌, ◌∙◌, ℕ, ap, refl, Option, Some, None}
+use Rattle.std.proofs.Common.{◌≡◌, ◌∙◌, ℕ, List, ap, refl, Option, Some, None}
 use Rattle.std.specs.Prelude.{option_map}
 use Rattle.cweb_files.specs.Bins.{refusal, refused}
+use Rattle.cweb_files.specs.Files.{File}
 use Rattle.cweb_files.specs.Sinks.{SinkContents, SinkModel, changed, failing, with_refusal, without_draft}
 use Rattle.cweb_files.specs.declared.bins.BinFault.{BinFault}
 use Rattle.cweb_files.specs.declared.bins.BinFault.TheVariants.{Memory, Device}
+use Rattle.cweb_system.specs.Bins.{draft_bytes, draft_name}
+use Rattle.cweb_system.specs.declared.drafts.path.Draft.{Draft}
 use Rattle.cweb_system.specs.Steps.{Disk, Seen}
+use Rattle.cweb_system.specs.Tree.{Tree}
+
+-- What bins have, from the committed files, the draft and the last refusal.
+abbrev pub bins_contents : {H : Type 0} → Tree → List File → Option (Draft H) → Option BinFault → SinkContents
+bins_contents tree files draft why = record {
+  bytes = draft_bytes tree draft;
+  beside = record { files = files; draft = option_map draft_name draft; refused = option_map refusal why };
+}
 
 abbrev pub as_model : ℕ → Option SinkContents → SinkModel
 as_model failed contents = record { failed = failed; contents = contents }

@@ -65,7 +65,8 @@ pub runs_in : {F H : Type 0} (system : FileSystem F H) (fs : F) (Promises : Worl
     (inputs : Option (List ℕ)) (shelf shelf' : FolderShelf F H system) (out out' : SinkModel) (log log' : SinkModel)
     (status : ℕ) → shelf_model system shelf ≡ new_shelf system fs
     → Promises (world_of_shelf (shelf_model system shelf) inputs)
-    (at (failed_reads (shelf_model system shelf)) out log) (at (failed_reads (shelf_model system shelf')) out' log') status
+    (at (failed_reads (shelf_model system shelf)) out log)
+    (at (failed_reads (shelf_model system shelf')) out' log') status
     → KeepsInFolder (Promises (world_of_shelf (new_shelf system fs) inputs))
     (at (failed_reads (new_shelf system fs)) out log) out' log' status
 runs_in {H = H} system fs Promises inputs shelf shelf' out out' log log' status same run =
@@ -92,8 +93,8 @@ TanglesIn system fs inputs args first log out log' status =
 pub unread_in : {F H : Type 0} (system : FileSystem F H) (fs : F) (inputs : Option (List ℕ))
     (args : Option OptionsModel) (out : SinkModel) (log log' : SinkModel) (status : ℕ)
     → out ≡ (devices_before system fs log).out
-    → TanglePromises (world_of_shelf (new_shelf system fs) inputs) args (at (failed_reads (new_shelf system fs)) out log)
-    (at (failed_reads (new_shelf system fs)) out log') status
+    → TanglePromises (world_of_shelf (new_shelf system fs) inputs) args
+    (at (failed_reads (new_shelf system fs)) out log) (at (failed_reads (new_shelf system fs)) out log') status
     → TanglesIn system fs inputs args (devices_before system fs log).out log out log' status
 unread_in system fs inputs args out log log' status is run =
     subst (λ (m : SinkModel). TanglesIn system fs inputs args m log out log' status) is

@@ -1,10 +1,7 @@
 use Rattle.std.proofs.Common.{refl}
-use Rattle.std.specs.Prelude.{option_map}
-use Rattle.cweb_files.specs.Bins.{refusal}
 use Rattle.cweb_files.specs.Sinks.{without_draft}
-use Rattle.cweb_system.specs.Bins.{draft_bytes, draft_name}
 use Rattle.cweb_system.specs.Steps.{view}
-use Rattle.cweb_system.proofs.Models.{model_is}
+use Rattle.cweb_system.proofs.Models.{bins_contents, model_is}
 use Rattle.cweb_system.proofs.Views.{files_left}
 use Rattle.cweb_system.proofs.bins.Folder.abandon.Goals as goal
 
@@ -13,11 +10,4 @@ returns-in-Some-clause-gone g c = model_is g.F.FileSystem.disk _ _ without_draft
     let see = view g.F.FileSystem.disk in
     let left = files_left c.args.self.now.files.written.items (see c.args.self.now.fs).tree (see c.discard.new.fs).tree
     (c.args.self.now.sound.files some) (c.discard.ensures.leaves.leaves some) in
-    λ i. record {
-      bytes = draft_bytes (see c.discard.new.fs).tree (c.take.ensures.after i);
-      beside = record {
-        files = left i;
-        draft = option_map draft_name (c.take.ensures.after i);
-        refused = option_map refusal c.args.self.now.refused;
-      };
-    })
+    λ i. bins_contents (see c.discard.new.fs).tree (left i) (c.take.ensures.after i) c.args.self.now.refused)

@@ -1,6 +1,5 @@
 use Rattle.std.proofs.Common.{◌≡◌, ◌∙◌, ap, map, refl, rules, subst, sym, string_bytes, Option, Some}
 use Rattle.std.specs.Prelude.{option_map}
-use Rattle.cweb_files.specs.Bins.{refusal}
 use Rattle.cweb_files.specs.Files.{with_bytes}
 use Rattle.cweb_files.specs.Sinks.{committed, without_draft}
 use Rattle.cweb_system.specs.declared.drafts.path.Draft.{Draft}
@@ -9,7 +8,7 @@ use Rattle.cweb_system.specs.Bins.{draft_bytes, draft_name, file_in}
 use Rattle.cweb_system.specs.Steps.{view}
 use Rattle.cweb_system.specs.inner.FolderSound.{IsDraftSound}
 use Rattle.cweb_system.specs.inner.Written.{Leaves}
-use Rattle.cweb_system.proofs.Models.{model_is}
+use Rattle.cweb_system.proofs.Models.{bins_contents, model_is}
 use Rattle.cweb_system.proofs.Views.{committing, files_left, leaves_then, stands_then}
 use Rattle.cweb_system.proofs.bins.Folder.commit.Goals as goal
 
@@ -23,14 +22,7 @@ returns-in_default-put_in_place-clause-err g c = model_is g.F.FileSystem.disk _ 
     let first : Leaves ws old mid = search rules in
     let left = files_left ws old new (c.args.self.now.sound.files some)
     (leaves_then ws old mid new first (c.discard.ensures.leaves.leaves some)) in
-    λ i. record {
-      bytes = draft_bytes new (c.take.ensures.after i);
-      beside = record {
-        files = left i;
-        draft = option_map draft_name (c.take.ensures.after i);
-        refused = option_map refusal c.args.self.now.refused;
-      };
-    })
+    λ i. bins_contents new (left i) (c.take.ensures.after i) c.args.self.now.refused)
 
 pub invariant_of-self-2 : goal.invariant_of-self-2
 invariant_of-self-2 g c =
@@ -59,11 +51,4 @@ returns-clause-ok g c = model_is g.F.FileSystem.disk _ _ committed refl (λ some
     (c.in-Ok.ensures.ok some) refl (c.put.ensures.written (c.in-Ok.ensures.answers.first some))
     ∙ sym (ap (λ (o : Option (Draft g.row.F-File.Denot)). with_bytes (map (file_in old) ws) (option_map draft_name o)
     (draft_bytes old o)) was) in
-    λ i. record {
-      bytes = draft_bytes new (c.take.ensures.after i);
-      beside = record {
-        files = files i;
-        draft = option_map draft_name (c.take.ensures.after i);
-        refused = option_map refusal c.args.self.now.refused;
-      };
-    })
+    λ i. bins_contents new (files i) (c.take.ensures.after i) c.args.self.now.refused)

@@ -1,11 +1,10 @@
 use Rattle.std.proofs.Common.{◌≡◌, ◌∙◌, ◌+◌, ap, refl, rules, Some, None}
-use Rattle.std.specs.Prelude.{option_map}
 use Rattle.cweb_files.specs.Bins.{refusal}
 use Rattle.cweb_files.specs.Sinks.{SinkModel, with_draft, with_refusal}
 use Rattle.cweb_files.specs.declared.bins.BinFault.TheVariants.{Device}
-use Rattle.cweb_system.specs.Bins.{draft_bytes, draft_name, folder_model}
+use Rattle.cweb_system.specs.Bins.{folder_model}
 use Rattle.cweb_system.specs.Steps.{view}
-use Rattle.cweb_system.proofs.Models.{after_discard, refused_device, refused_memory}
+use Rattle.cweb_system.proofs.Models.{after_discard, bins_contents, refused_device, refused_memory}
 use Rattle.cweb_system.proofs.Views.{files_then}
 use Rattle.cweb_system.proofs.bins.Folder.start.Goals as goal
 
@@ -29,14 +28,7 @@ returns-then-eq-clause-err g c =
     let see = view g.F.FileSystem.disk in
     let files = files_then c.begin.ensures.written (c.abandon.new.self.sound.files some)
     (c.begin.ensures.leaves.leaves some) in
-    λ i. record {
-      bytes = draft_bytes (see c.begin.new.fs).tree (c.abandon.ensures.none i);
-      beside = record {
-        files = files i;
-        draft = option_map draft_name (c.abandon.ensures.none i);
-        refused = Some (refusal fault);
-      };
-    })
+    λ i. bins_contents (see c.begin.new.fs).tree (files i) (c.abandon.ensures.none i) (Some fault))
     ∙ refused_device fault (folder_model g.F.FileSystem c.args.self.now) is
 
 pub returns-else-eq-clause-err : goal.returns-else-eq-clause-err
@@ -48,12 +40,5 @@ returns-else-eq-clause-err g c =
     let see = view g.F.FileSystem.disk in
     let files = files_then c.begin.ensures.written (c.abandon.new.self.sound.files some)
     (c.begin.ensures.leaves.leaves some) in
-    λ i. record {
-      bytes = draft_bytes (see c.begin.new.fs).tree (c.abandon.ensures.none i);
-      beside = record {
-        files = files i;
-        draft = option_map draft_name (c.abandon.ensures.none i);
-        refused = Some (refusal fault);
-      };
-    })
+    λ i. bins_contents (see c.begin.new.fs).tree (files i) (c.abandon.ensures.none i) (Some fault))
     ∙ refused_memory fault (folder_model g.F.FileSystem c.args.self.now) apart
