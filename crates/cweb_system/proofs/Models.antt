@@ -3,7 +3,7 @@ use Rattle.std.proofs.Common.{◌≡◌, ◌∙◌, ℕ, List, ap, refl, Option,
 use Rattle.std.specs.Prelude.{option_map}
 use Rattle.cweb_files.specs.Bins.{refusal, refused}
 use Rattle.cweb_files.specs.Files.{File}
-use Rattle.cweb_files.specs.Sinks.{SinkContents, SinkModel, changed, failing, with_refusal, without_draft}
+use Rattle.cweb_files.specs.Sinks.{SinkContents, SinkModel, changed, failing, without_draft, without_file}
 use Rattle.cweb_files.specs.declared.bins.BinFault.{BinFault}
 use Rattle.cweb_files.specs.declared.bins.BinFault.TheVariants.{Memory, Device}
 use Rattle.cweb_system.specs.Bins.{draft_bytes, draft_name}
@@ -51,11 +51,11 @@ after_discard disk old mid new change {count = count} same gone counts is =
 
 -- A refused draft, by the fault.
 pub refused_device : (fault : BinFault) (bins : SinkModel) → fault ≡ Device
-    → failing (with_refusal (refusal fault)) bins ≡ refused fault bins
+    → failing (without_file (Some (refusal fault))) bins ≡ refused fault bins
 refused_device Device bins is = refl
 refused_device Memory bins is = absurd (cc)
 
 pub refused_memory : (fault : BinFault) (bins : SinkModel) → (fault ≡ Device → ⊥)
-    → changed (with_refusal (refusal fault)) bins ≡ refused fault bins
+    → changed (without_file (Some (refusal fault))) bins ≡ refused fault bins
 refused_memory Memory bins apart = refl
 refused_memory Device bins apart = absurd (apart refl)

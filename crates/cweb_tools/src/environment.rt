@@ -1,5 +1,6 @@
 // The arguments and the variables of a run.
-ghost use Rattle.std.specs.Prelude.{◌≡◌, ℕ, List, [], Bool, Option, None, IsTrue, IfOk, false, option_map, slice_get};
+ghost use Rattle.std.specs.Prelude.{◌≡◌, Option, None, Some, IfOk, option_map, slice_get};
+ghost use Rattle.cweb_tools.specs.surface.Variables.{Variables};
 
 use std::alloc::{AllocError, Global};
 use std::env::FillError;
@@ -13,24 +14,18 @@ const TURNS: u32 = 56;
 
 /// The arguments and the variables of a run, as bytes.
 pub trait Environment {
-    /// Whether they are observable.
-    ghost tells: { Self → Bool };
-
-    /// The arguments after the program's name.
-    ghost args: { Self → List (List ℕ) };
-
-    /// The value of each variable that is set.
-    ghost value: { Self → List ℕ → Option (List ℕ) };
+    /// What they are, if they are observable.
+    ghost known: { Self → Option Variables };
 
     /// The argument at an index, if there is one.
     fn argument(&self, alloc: Global, index: usize) -> Result<Option<Vec<u8>>, AllocError>
-        ensures { IsTrue (tells self.now) → IfOk result (λ found.
-            option_map (λ bytes. bytes.items) found ≡ slice_get (args self.now) index) };
+        ensures { (seen : Variables) → known self.now ≡ Some seen → IfOk result (λ found.
+            option_map (λ bytes. bytes.items) found ≡ slice_get seen.args index) };
 
     /// The value of a variable, if it is set.
     fn variable(&self, alloc: Global, name: &str) -> Result<Option<Vec<u8>>, AllocError>
-        ensures { IsTrue (tells self.now) → IfOk result (λ found.
-            option_map (λ bytes. bytes.items) found ≡ value self.now name.now) };
+        ensures { (seen : Variables) → known self.now ≡ Some seen → IfOk result (λ found.
+            option_map (λ bytes. bytes.items) found ≡ seen.value name.now) };
 }
 
 /// The arguments and the variables of the program.
@@ -47,11 +42,7 @@ enum Query<'a> {
 }
 
 impl<R: Env> Environment for ProgramEnvironment<'_, R> {
-    ghost tells = { λ _. false };
-
-    ghost args = { λ _. [] };
-
-    ghost value = { λ _ _. None };
+    ghost known = { λ _. None };
 
     /// The system's argument 0 is the program's name, which may be any bytes.
     fn argument(&self, alloc: Global, index: usize) -> Result<Option<Vec<u8>>, AllocError> {

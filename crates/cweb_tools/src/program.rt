@@ -1,7 +1,8 @@
 // The arguments and the folder of included files, for all three programs.
-ghost use Rattle.std.specs.Prelude.{◌≡◌, ◌<◌, ◌+◌, ◌^◌, ℕ, List, [], None, Some, All, IsTrue, IfOk};
+ghost use Rattle.std.specs.Prelude.{◌≡◌, ◌<◌, ◌+◌, ◌^◌, ℕ, List, [], None, Some, All, IfOk};
 ghost use Rattle.std.specs.Prelude.{codes, map, option_map, string_bytes};
 ghost use Rattle.std.specs.Prelude.{IsUtf8};
+ghost use Rattle.cweb_tools.specs.surface.Variables.{Variables};
 ghost use Rattle.cweb_log.specs.Log.{stop_line};
 ghost use Rattle.cweb_log.specs.DeviceModels.{Logs};
 
@@ -15,9 +16,9 @@ const INPUTS: &str = "CWEBINPUTS";
 
 /// The arguments after the program's name. If one isn't UTF-8, the list is empty, so that the run refuses it.
 pub fn read_args<E: Environment>(alloc: Global, env: &E) -> Result<Vec<String>, AllocError>
-    ensures valid { IsTrue (E.tells env.now) → All IsUtf8 (E.args env.now) → IfOk result (λ words.
-        map string_bytes words.items ≡ E.args env.now) }
-    ensures invalid { IsTrue (E.tells env.now) → (All IsUtf8 (E.args env.now) → ⊥) →
+    ensures valid { (seen : Variables) → E.known env.now ≡ Some seen → All IsUtf8 seen.args →
+        IfOk result (λ words. map string_bytes words.items ≡ seen.args) }
+    ensures invalid { (seen : Variables) → E.known env.now ≡ Some seen → (All IsUtf8 seen.args → ⊥) →
         IfOk result (λ words. words.items ≡ []) }
 {
     let mut words = Vec::new(alloc);
@@ -47,13 +48,14 @@ pub fn as_slices<'a>(alloc: Global, words: &'a [String]) -> Result<Vec<&'a str>,
 
 /// The folder of included files. A value that isn't UTF-8 counts as none.
 pub fn read_inputs<E: Environment>(alloc: Global, env: &E) -> Result<Option<String>, AllocError>
-    ensures valid { IsTrue (E.tells env.now) → IfOk result (λ folder. (text : List ℕ) →
-        E.value env.now (codes "CWEBINPUTS") ≡ Some text → IsUtf8 text →
-        option_map string_bytes folder ≡ Some text) }
-    ensures invalid { IsTrue (E.tells env.now) → IfOk result (λ folder. (text : List ℕ) →
-        E.value env.now (codes "CWEBINPUTS") ≡ Some text → (IsUtf8 text → ⊥) → folder ≡ None) }
-    ensures unset { IsTrue (E.tells env.now) → IfOk result (λ folder.
-        E.value env.now (codes "CWEBINPUTS") ≡ None → folder ≡ None) }
+    ensures valid { (seen : Variables) → E.known env.now ≡ Some seen →
+        IfOk result (λ folder. (text : List ℕ) → seen.value (codes "CWEBINPUTS") ≡ Some text →
+        IsUtf8 text → option_map string_bytes folder ≡ Some text) }
+    ensures invalid { (seen : Variables) → E.known env.now ≡ Some seen →
+        IfOk result (λ folder. (text : List ℕ) → seen.value (codes "CWEBINPUTS") ≡ Some text →
+        (IsUtf8 text → ⊥) → folder ≡ None) }
+    ensures unset { (seen : Variables) → E.known env.now ≡ Some seen → IfOk result (λ folder.
+        seen.value (codes "CWEBINPUTS") ≡ None → folder ≡ None) }
 {
     let Some(bytes) = env.variable(alloc, INPUTS)? else {
         return Ok(None);

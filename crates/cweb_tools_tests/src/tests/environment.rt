@@ -1,5 +1,5 @@
 // The arguments and the folder of included files, from an environment that the test makes.
-ghost use Rattle.std.specs.Prelude.{◌≡◌, IfOk, None, Some, codes, if◌then◌else◌, map, option_map, true};
+ghost use Rattle.std.specs.Prelude.{◌≡◌, IfOk, None, Some, codes, if◌then◌else◌, map, option_map};
 ghost use Rattle.std.specs.Str.{bytes_eq};
 
 use super::wanted::{holds, same_name};
@@ -15,12 +15,11 @@ struct FixedEnvironment {
 }
 
 impl Environment for FixedEnvironment {
-    ghost tells = { λ _. true };
-
-    ghost args = { λ env. map (λ word. word.items) env.words.items };
-
-    ghost value = { λ env name. if bytes_eq name (codes "CWEBINPUTS")
-        then option_map (λ text. text.items) env.inputs else None };
+    ghost known = { λ env. Some (record {
+        args = map (λ word. word.items) env.words.items;
+        value = λ name. if bytes_eq name (codes "CWEBINPUTS")
+            then option_map (λ text. text.items) env.inputs else None;
+    }) };
 
     fn argument(&self, alloc: Global, index: usize) -> Result<Option<Vec<u8>>, AllocError> {
         match self.words.get(index) {

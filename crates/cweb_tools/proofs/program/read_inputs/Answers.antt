@@ -7,6 +7,6 @@ of_some : (xs ys : List ℕ) → Some xs ≡ Some ys → xs ≡ ys
 of_some xs ys is = cc
 
 pub returns-in-Ok-clause-invalid : goal.returns-in-Ok-clause-invalid
-returns-in-Ok-clause-invalid g c = λ tells text is invalid.
-    let found : Some (string_bytes c.in-Ok.folder) ≡ g.E.Environment.value c.args.env.now _ = search rules in
+returns-in-Ok-clause-invalid g c = λ seen it text is invalid.
+    let found : Some (string_bytes c.in-Ok.folder) ≡ seen.value _ = search rules in
     absurd (invalid (subst IsUtf8 (of_some _ _ (found ∙ is)) (IsUtf8-string_bytes c.in-Ok.folder)))
