@@ -1,5 +1,5 @@
 -- What is known of a shelf that was read.
-use Rattle.cweb_tools.proofs.Common.{◌≡◌, ◌⊎◌, inl, inr, ℕ, List, ◌∙◌, refl, sym, ap, IsSome, Option, Some, None, Stop, ReadFault, subject, contents_of, failed_reads}
+use Rattle.cweb_tools.proofs.Common.{◌≡◌, ◌⊎◌, inl, inr, ℕ, List, [], ◌∙◌, refl, sym, ap, IsSome, Option, Some, None, Stop, ReadFault, subject, contents_of, failed_reads}
 use Rattle.std.specs.Prelude.{Err, option_map, unwrap_or}
 use Rattle.cweb_files.specs.Shelves.{Observed, ShelfContents, ShelfModel}
 use Rattle.cweb_input.specs.surface.ReaderNames.{BlamesFile, ReadsShelf, name_of_file}
@@ -22,11 +22,6 @@ module _ {R : Type 0} where
           (record { texts = λ name. None; left = λ reader. []; opened_as = λ reader. []; blamed = [] }))
       by None is = absurd (cc)
       by (Some seen) is = refl
-
-  pub contents_is : (shelf : ShelfModel R) {seen : ShelfContents R} → shelf.contents ≡ Some seen
-      → contents_of shelf ≡ seen
-  contents_is shelf is = ap (λ (contents : Option (ShelfContents R)). unwrap_or contents
-      (record { texts = λ name. None; left = λ reader. []; opened_as = λ reader. []; blamed = [] })) is
 
   unnamed : (stop : Stop) (about : List ℕ) (name : FileId → List ℕ) (old : ShelfModel R) → old.contents ≡ None
       → failed_reads (model_after name stop old) ≡ shelf_after stop about (failed_reads old)

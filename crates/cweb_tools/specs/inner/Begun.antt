@@ -1,11 +1,11 @@
 -- Runs whose merge has begun.
-use Rattle.std.specs.Prelude.{ℕ, Option, Some}
+use Rattle.std.specs.Prelude.{ℕ, IsSome, Option, Some}
 use Rattle.cweb_files.specs.Shelves.{Observed, ShelfModel}
 use Rattle.cweb_input.specs.Include.{World, Found}
 use Rattle.cweb_lines.specs.surface.MergerCalls.{BeginsMerge, KnowsReaders, so_far, to_come}
 use Rattle.cweb_lines.specs.declared.merger.Merger.{Merger}
 use Rattle.cweb_log.specs.CommandLine.{WebNames}
-use Rattle.cweb_log.specs.DeviceModels.{Devices, failed_reads}
+use Rattle.cweb_log.specs.DeviceModels.{Devices, contents_of, failed_reads}
 use Rattle.cweb_files.specs.Sinks.{SinkModel}
 use Rattle.cweb_tools.specs.inner.Course.{EndsMerge, found_course}
 use Rattle.cweb_tools.specs.inner.Does.{at}
@@ -13,7 +13,8 @@ use Rattle.cweb_tools.specs.inner.Does.{at}
 -- The merge of the files that were found begins.
 pub record MergeHasBegun {S R : Type 0} (shelf : ShelfModel R) (merger : Merger S R) (world : World)
     (found : Option Found) (changes : Option (Option Found)) : Type 0 where
-  pub begins : Observed shelf (λ seen. BeginsMerge world found changes (so_far merger) (to_come seen merger))
+  pub begins : IsSome (failed_reads shelf).blamed
+      → BeginsMerge world found changes (so_far merger) (to_come (contents_of shelf) merger)
   pub known : Observed shelf (λ seen. KnowsReaders seen merger)
 
 -- Whatever was found, a run of `wmerge` ends as its course does.

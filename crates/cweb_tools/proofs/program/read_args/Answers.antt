@@ -10,6 +10,11 @@ returns-in_default-clause-invalid g c = λ seen it invalid.
     let none : slice_get seen.args c.words.index ≡ None = search rules in
     absurd (invalid (subst (All IsUtf8) (all_taken _ c.words.index none) (c.words.invariant.valid seen it)))
 
+pub returns-in_default-clause-valid : goal.returns-in_default-clause-valid
+returns-in_default-clause-valid g c = λ seen it valid.
+    let none : slice_get seen.args c.words.index ≡ None = search rules in
+    c.words.invariant.words seen it ∙ all_taken _ c.words.index none
+
 pub returns-in_default-from_utf8-clause-valid : goal.returns-in_default-from_utf8-clause-valid
 returns-in_default-from_utf8-clause-valid g c = λ seen it valid.
     let some : slice_get seen.args c.words.index ≡ Some c.in-Some.bytes.items =

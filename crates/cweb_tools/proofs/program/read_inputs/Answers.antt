@@ -1,4 +1,4 @@
-use Rattle.std.proofs.Common.{◌≡◌, ℕ, List, Some, ◌∙◌, subst, rules}
+use Rattle.std.proofs.Common.{◌≡◌, ℕ, List, Some, ◌∙◌, subst, sym, rules}
 use Rattle.std.specs.Prelude.{IsUtf8, string_bytes}
 use Rattle.std.proofs.lemmas.Str.{IsUtf8-string_bytes}
 use Rattle.cweb_tools.proofs.program.read_inputs.Goals as goal
@@ -10,3 +10,9 @@ pub returns-in-Ok-clause-invalid : goal.returns-in-Ok-clause-invalid
 returns-in-Ok-clause-invalid g c = λ seen it text is invalid.
     let found : Some (string_bytes c.in-Ok.folder) ≡ seen.value _ = search rules in
     absurd (invalid (subst IsUtf8 (of_some _ _ (found ∙ is)) (IsUtf8-string_bytes c.in-Ok.folder)))
+
+pub returns-clause-valid : goal.returns-clause-valid
+returns-clause-valid g c = λ seen it text is utf8.
+    let found : Some c.in-Some.bytes.items ≡ seen.value _ = search rules in
+    let no = c.in-Err.ensures.succeeds (subst IsUtf8 (sym (of_some _ _ (found ∙ is))) utf8) in
+    absurd (cc)

@@ -16,8 +16,8 @@ returns-in-Ok g c = λ names world found changes begun.
     let same : new ≡ old = ap failed_reads (wrote.reads c.requires.running).1 in
     completed world names found changes old new (out_of old (g.W.Sink.model c.args.out.now))
     (out_of new (g.W.Sink.model c.write_merged_in_chunks.new.out))
-    (g.L.Sink.model c.args.log.now) (g.L.Sink.model c.log_faults.new.log) _ _
-    (λ some. begun.begins (contents_of model) (observed model some)) _ _ _
+    (g.L.Sink.model c.args.log.now) (g.L.Sink.model c.log_faults.new.log) _ _ _
+    begun.begins _ _ _
     c.names.ensures c.faults.ensures.value (λ some. (wrote.ok (contents_of model) (observed model some)).yields)
     wrote.grows.lines wrote.grows.bytes same
     (λ events is i. record {
@@ -45,8 +45,8 @@ returns-in-Err g c = λ names world found changes begun.
     ap (λ reads. is_some reads.blamed) left ∙ stays_known stop (subject opened stop) old in
     halted_early world names found changes old new (out_of old (g.W.Sink.model c.args.out.now))
     (out_of new (g.W.Sink.model c.write_merged_in_chunks.new.out))
-    (g.L.Sink.model c.args.log.now) (g.L.Sink.model c.log_stop.new.log) _ _
-    (λ some. begun.begins (contents_of model) (observed model some)) stop _ _
+    (g.L.Sink.model c.args.log.now) (g.L.Sink.model c.log_stop.new.log) _ _ _
+    begun.begins stop _ _
     (Writes (g.W.Sink.model c.args.out.now) (g.W.Sink.model c.write_merged_in_chunks.new.out))
     c.names-in-Err.ensures wrote.grows.lines
     wrote.grows.bytes blames.kind (λ some. (wrote.stops (contents_of model) (observed model some) running).why)

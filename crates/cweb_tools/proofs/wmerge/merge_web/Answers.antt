@@ -1,6 +1,6 @@
-use Rattle.cweb_tools.proofs.Common.{Some, option_copied, sym, ◌∙◌, subst, World, FailedReads, SinkModel, Devices, at, devices, failed_reads, EndsMerge, WebNames, merge_course, contents_of, world_of}
+use Rattle.cweb_tools.proofs.Common.{Some, option_copied, sym, ◌∙◌, ap, subst, World, FailedReads, SinkModel, Devices, at, devices, failed_reads, EndsMerge, WebNames, merge_course, contents_of, world_of}
 use Rattle.cweb_log.specs.inner.Words.{merge_word_names}
-use Rattle.cweb_tools.proofs.Carried.{contents_is, observed}
+use Rattle.cweb_tools.proofs.Carried.{observed}
 use Rattle.cweb_tools.proofs.MergeStarts.{start_stopped}
 use Rattle.cweb_tools.proofs.wmerge.merge_web.Goals as goal
 
@@ -24,20 +24,18 @@ returns-in-Err g c =
 
 pub returns-in-Ok : goal.returns-in-Ok
 returns-in-Ok g c =
-    let world : World = world_of (contents_of (g.S.Shelf.model c.args.shelf.now)).texts (option_copied c.args.inputs) in
     let names : WebNames = merge_word_names c.args.args.now in
     let begun = c.in-Ok.ensures in
+    let now = g.S.Shelf.model c.start-started.new.shelf in
     let out : SinkModel = g.W.Sink.model c.args.out.now in
     let log : SinkModel = g.L.Sink.model c.args.log.now in
     let after : Devices = devices g.S.Shelf g.W.Sink g.L.Sink c.merge_begun.new.shelf c.merge_begun.new.out
     c.merge_begun.new.log in
-    subst (λ (shelf : FailedReads). EndsMerge (Some names) (merge_course world (Some names)) (at shelf out log) after
-    c.merge_begun.result)
-    (ap failed_reads begun.same)
-    (c.merge_begun.ensures names world _ _ (record {
-      begins = λ seen it.
-          let known = ap (λ m. m.contents) (sym begun.same) ∙ it in
-          rw (c.as_str.ensures.value, c.second.ensures, c.change.ensures, c.folder.ensures,
-          sym (contents_is (g.S.Shelf.model c.args.shelf.now) known)) at (begun.begins seen known);
+    subst (λ shelf. EndsMerge (Some names)
+    (merge_course (world_of (contents_of shelf).texts (option_copied c.args.inputs)) (Some names))
+    (at (failed_reads shelf) out log) after c.merge_begun.result) begun.same
+    (c.merge_begun.ensures names (world_of (contents_of now).texts (option_copied c.args.inputs)) _ _ (record {
+      begins = λ some. rw (c.as_str.ensures.value, c.second.ensures, c.change.ensures, c.folder.ensures)
+          at (begun.begins (contents_of now) (ap (λ m. m.contents) (sym begun.same) ∙ observed now some));
       known = λ seen it. begun.readers seen (ap (λ m. m.contents) (sym begun.same) ∙ it);
     }))
