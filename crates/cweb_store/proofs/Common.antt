@@ -89,6 +89,7 @@ pub use Rattle.cweb_store.specs.laws.Laws.{OccurrencesAreThoseOfCalls, occurrenc
 pub use Rattle.cweb_store.specs.laws.MoreLaws.{IsLeft, OnlyLayoutIsDropped}
 pub use Rattle.cweb_store.specs.laws.MoreLaws.{NamesAreDistinct, AbbreviationsBeginTheirNames, OneFaultForNoName}
 pub use Rattle.cweb_store.specs.laws.MoreLaws.{left_of_macro}
+pub use Rattle.cweb_store.specs.laws.TokenLaws.{token_of_call, IsLeftOfTokens, TokensAreThosePushed}
 pub use Rattle.cweb_store.specs.surface.Growing.{part_count, token_count}
 pub use Rattle.cweb_store.specs.surface.Parts.{numbers_where, tokens_at}
 pub use Rattle.cweb_store.specs.surface.Replacements.{replacement_of}

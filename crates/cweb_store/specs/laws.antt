@@ -1,6 +1,7 @@
 -- Definitions that only laws cite.
 pub mod Calls
 pub mod BuilderCalls
+pub mod TokenLaws
 pub mod Laws
 pub mod MoreLaws
 pub mod NameLaws

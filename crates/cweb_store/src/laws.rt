@@ -12,6 +12,7 @@ ghost use Rattle.cweb_store.specs.laws.MoreLaws.{OneFaultForNoName, OnlyLayoutIs
 ghost use Rattle.cweb_store.specs.laws.NameLaws.{FilesAreNamesOfOccurrences};
 ghost use Rattle.cweb_store.specs.laws.NameLaws.{NamesDecideResolutions};
 ghost use Rattle.cweb_store.specs.laws.BuilderCalls.{accepted_calls, AcceptsCalls};
+ghost use Rattle.cweb_store.specs.laws.TokenLaws.{TokensAreThosePushed};
 
 use crate::builder::Builder;
 use crate::call::{Answered, Call};
@@ -58,9 +59,11 @@ pub fn occurrences()
     ensures yield_the_file_names { FilesAreNamesOfOccurrences }
 {}
 
-/// The parts of a name join to their concatenation, in order. Dropping layout and closing remove only trailing layout.
-/// A macro keeps its first two tokens, and no layout after them.
+/// The tokens of the parts are those that were pushed, in order, less dropped layout. Dropping layout and closing remove
+/// only trailing layout. A macro keeps its first two tokens, and no layout after them. The parts of a name join to their
+/// concatenation, in order.
 pub fn parts()
+    ensures tokens_are_those_pushed { TokensAreThosePushed }
     ensures joining_concatenates { JoiningConcatenates }
     ensures only_layout_is_dropped { OnlyLayoutIsDropped }
 {}
