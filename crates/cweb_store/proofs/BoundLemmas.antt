@@ -40,13 +40,7 @@ among-below i before text Full is_file all g =
       position-below (bytes_eq text) (spellings all),
       any-grows (bytes_eq text) (with_full_name i before text) all g (with_text-has i before text),
     )
-among-below i before text Prefix is_file all g =
-    grind (
-      arith,
-      the_one-below (length all),
-      beginning-below 0 (length all) text,
-      grows-length before all g,
-    )
+among-below i before text Prefix is_file all g = grind (arith, the_one-below, beginning-below, grows-length)
 
 resolutions-below : (i : ℕ) (before : List Name) (os : List Occurrence)
     → let all = names_from i before os in AllByRecursion (StoredBelow (length all)) (resolutions_from i before all os)

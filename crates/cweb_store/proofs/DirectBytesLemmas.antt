@@ -15,9 +15,4 @@ borrowed_as t b = Some (record { string = t; edge = b })
 
 pub sign-borrows : (t : List ℕ) (b : Edge) → IsStoredEdge t b → is_known_edge b ≡ true
     → Some (record { string = t; edge = b }) ≡ direct_bytes (Punct t)
-sign-borrows t b is_known some = grind (
-  arith,
-  known-ascii t b (list_any is_high t) refl is_known some,
-  is_known some,
-  borrowed_as t,
-)
+sign-borrows t b is_known some = grind (arith, known-ascii)

@@ -25,8 +25,7 @@ record FileAt (rs : List Resolution) (i : ℕ) (os : List Occurrence) (n : NameI
 any-with_file : (rs : List Resolution) (fs : List NameId) (i : ℕ) (o : Occurrence) (n : NameId)
     → list_any (is_id n) (with_file rs fs i o)
     ≡ (list_any (is_id n) fs || (o.is_file && is_some_id n (resolved_at rs i)))
-any-with_file rs fs i o n =
-    grind (arith, o.is_file, any-with_some n (resolved_at rs i) fs, or-false (list_any (is_id n) fs))
+any-with_file rs fs i o n = grind (arith, any-with_some, or-false)
 
 file_here : (rs : List Resolution) (i : ℕ) (o : Occurrence) (os : List Occurrence) (n : NameId) (file : Bool)
     → o.is_file ≡ file → (file && is_some_id n (resolved_at rs i)) ≡ true → FileAt rs i (o ∷ os) n
@@ -57,12 +56,8 @@ file_later i o f = record {
 found : (rs : List Resolution) (fs : List NameId) (i : ℕ) (os : List Occurrence) (n : NameId)
     → list_any (is_id n) (files_from rs fs i os) ≡ true → (list_any (is_id n) fs ≡ true) ⊎ FileAt rs i os n
 found rs fs i [] n h = inl h
-found rs fs i (o ∷ os) n h = elim (found rs (with_file rs fs i o) (i + 1) os n h) [
-  | inl a ↦
-      elim (or_cases (list_any (is_id n) fs) (o.is_file && is_some_id n (resolved_at rs i))
-      (sym (any-with_file rs fs i o n) ∙ a)) [ inl b ↦ inl b | inr b ↦ inr (file_here rs i o os n o.is_file refl b) ]
-  | inr f ↦ inr (file_later i o f)
-]
+found rs fs i (o ∷ os) n h =
+    grind (arith, or_cases, any-with_file, file_here, file_later, found rs (with_file rs fs i o) (i + 1) os n h)
 
 kept : (rs : List Resolution) (fs : List NameId) (i : ℕ) (os : List Occurrence) (n : NameId)
     → list_any (is_id n) fs ≡ true → list_any (is_id n) (files_from rs fs i os) ≡ true
@@ -74,18 +69,13 @@ named : (rs : List Resolution) (fs : List NameId) (i : ℕ) (os : List Occurrenc
     → slice_get os k ≡ Some x → x.is_file ≡ true → resolved_at rs (i + k) ≡ Some n
     → list_any (is_id n) (files_from rs fs i os) ≡ true
 named rs fs i [] n k x there file is = cc
-named rs fs i (o ∷ os) n zero x there file is =
-    let same : o ≡ x = cc in
-    let here : resolved_at rs i ≡ Some n = ap (resolved_at rs) (let e : i ≡ i + 0 = omega arith in e) ∙ is in
-    kept rs (with_file rs fs i o) (i + 1) os n
-    (grind (arith, any-with_file rs fs i o n, here, same, file, eq-eqb n.0 n.0 refl, list_any (is_id n) fs))
+named rs fs i (o ∷ os) n zero x there file is = grind (arith, kept, any-with_file, eq-eqb)
 named rs fs i (o ∷ os) n (suc k) x there file is =
     named rs (with_file rs fs i o) (i + 1) os n k x there file
     (ap (resolved_at rs) (let e : (i + 1) + k ≡ i + suc k = omega arith in e) ∙ is)
 
 apart : (n m : NameId) → is_id n m ≡ false → is_id m n ≡ false
-apart n m h = false_from_ne_true (is_id m n) (λ e.
-    let same : is_id n m ≡ true = eq-eqb n.0 m.0 (sym (eqb-true m.0 n.0 e)) in cc)
+apart n m h = grind (arith, false_from_ne_true, eq-eqb, eqb-true)
 
 distinct-push : (ns : List NameId) (n : NameId) → AreDistinctIds ns → list_any (is_id n) ns ≡ false
     → AreDistinctIds (ns ++ n ∷ [])
@@ -104,14 +94,7 @@ distinct-from rs fs i (o ∷ os) d =
     grind (arith, o.is_file, distinct-with fs (resolved_at rs i) d, distinct-from rs (with_file rs fs i o) (i + 1) os)
 
 file_named : (os : List Occurrence) (n : NameId) → FileAt (resolutions os) 0 os n → IsNamedAsFile os n
-file_named os n f = record {
-  number = f.number;
-  occurrence = f.occurrence;
-  there = f.there;
-  file = f.file;
-  resolves =
-      ap (resolved_at (resolutions os)) (let e : f.number ≡ f.at = omega (arith, f.at_is) in e) ∙ f.resolves;
-}
+file_named os n f = grind arith
 
 pub files_are_names_of_occurrences : FilesAreNamesOfOccurrences
 files_are_names_of_occurrences = record {

@@ -11,8 +11,7 @@ pub resolutions-at : (i : ℕ) (before all : List Name) (os : List Occurrence) (
     → slice_get os k ≡ Some o
     → slice_get (resolutions_from i before all os) k ≡ Some (resolved_among (names_from i before (take k os)) all o)
 resolutions-at i before all [] k o h = cc
-resolutions-at i before all (x ∷ os) zero o h = let same : x ≡ o = cc in
-    ap (λ y. Some (resolved_among before all y)) same
+resolutions-at i before all (x ∷ os) zero o h = grind arith
 resolutions-at i before all (x ∷ os) (suc k) o h = resolutions-at (i + 1) (with_occurrence_name i before x) all os k o h
 
 get-append : (os later : List Occurrence) (k : ℕ) (o : Occurrence)
@@ -140,8 +139,7 @@ full_names_resolve_to_themselves os i o there full =
 joined-append : (test : PartKind → Bool) (ps qs : List Part)
     → joined_where test (ps ++ qs) ≡ joined_where test ps ++ joined_where test qs
 joined-append test [] qs = refl
-joined-append test (p ∷ ps) qs =
-    grind (arith, joined-append test ps qs, append_assoc p.tokens (joined_where test ps) (joined_where test qs))
+joined-append test (p ∷ ps) qs = grind (arith, append_assoc, joined-append test ps qs)
 
 pub joining_concatenates : JoiningConcatenates
 joining_concatenates = grind (arith, append-nil, joined-append)
@@ -149,8 +147,7 @@ joining_concatenates = grind (arith, append-nil, joined-append)
 occurrences-from : (c : Contents) (calls : List Call)
     → (fold after_call c calls).occurrences ≡ c.occurrences ++ filter_map occurrence_of_call calls
 occurrences-from c [] = sym (append-nil c.occurrences)
-occurrences-from c (Occurs o ∷ calls) =
-    grind (arith, append_assoc, occurrences-from (after_call c (Occurs o)) calls)
+occurrences-from c (Occurs o ∷ calls) = grind (arith, append_assoc, occurrences-from (after_call c (Occurs o)) calls)
 occurrences-from c (call ∷ calls) = occurrences-from (after_call c call) calls
 
 pub occurrences_are_those_of_calls : OccurrencesAreThoseOfCalls

@@ -5,12 +5,7 @@ use Rattle.std.proofs.lemmas.Bool.{and_from}
 use Rattle.std.proofs.lemmas.List.Folds.{list_all-append}
 
 left-then : (ts us vs : List Token) → IsLeft ts us → IsLeft us vs → IsLeft ts vs
-left-then ts us vs f g = record {
-  rest = g.rest ++ f.rest;
-  splits = f.splits ∙ ap (λ xs. xs ++ f.rest) g.splits ∙ append_assoc vs g.rest f.rest;
-  layout = list_all-append is_layout g.rest f.rest
-      ∙ and_from (list_all is_layout g.rest) (list_all is_layout f.rest) g.layout f.layout;
-}
+left-then ts us vs f g = grind (arith, append_assoc, list_all-append, and_from)
 
 left-before : (test : Token → Bool) (t : Token) (ts us : List Token) → (test t ≡ true → is_layout t ≡ true)
     → IsLeft ts us → IsLeft (t ∷ ts) (before_last test t us)
@@ -23,8 +18,7 @@ left-before test t ts [] layout f =
       }
       | false ↦ λ h. record { rest = f.rest; splits = ap (λ xs. t ∷ xs) f.splits; layout = f.layout }
     ]) refl
-left-before test t ts (u ∷ us) layout f =
-    record { rest = f.rest; splits = ap (λ xs. t ∷ xs) f.splits; layout = f.layout }
+left-before test t ts (u ∷ us) layout f = grind arith
 
 left-last : (test : Token → Bool) (ts : List Token) → ((t : Token) → test t ≡ true → is_layout t ≡ true)
     → IsLeft ts (without_last test ts)
@@ -69,10 +63,4 @@ without_last-none test [] h = refl
 without_last-none test (t ∷ ts) h = grind (arith, without_last-none test ts)
 
 pub only_layout_is_dropped : OnlyLayoutIsDropped
-only_layout_is_dropped = record {
-  dropped = λ p. left-after (protected_count p.kind) p.tokens;
-  closed = left-closed;
-  firsts = λ p. grind arith;
-  no_more = λ t u layout all. ap (λ us. t ∷ u ∷ (us ++ without_last is_layout layout)) (take-none layout)
-      ∙ ap (λ us. t ∷ u ∷ us) (without_last-none is_layout layout all);
-}
+only_layout_is_dropped = grind (arith, left-after, left-closed, take-none, without_last-none)

@@ -35,11 +35,7 @@ trim-none n test ts h = cc (take_all n ts h, drop_of_length-le ts h, append-nil 
 pub trim-drop : (first n : ℕ) (test : Token → Bool) (ts : List Token)
     → drop first (without_last_after (first + n) test ts) ≡ without_last_after n test (drop first ts)
 trim-drop zero n test ts = ap (λ k. without_last_after k test ts) (let same : zero + n ≡ n = omega arith in same)
-trim-drop (suc first) n test [] = trim-none-both n
-  where
-    trim-none-both : (n : ℕ)
-        → drop (suc first) (without_last_after (suc first + n) test []) ≡ without_last_after n test []
-    trim-none-both n = grind (arith, trim-none (suc first + n) test, trim-none n test)
+trim-drop (suc first) n test [] = grind (arith, trim-none)
 trim-drop (suc first) n test (t ∷ ts) =
     let next : suc first + n ≡ suc (first + n) = omega arith in
     ap (λ k. drop (suc first) (without_last_after k test (t ∷ ts))) next ∙ trim-drop first n test ts

@@ -38,8 +38,7 @@ put-visits : (rs : List Resolution) (r : PartRange) (ranges : List PartRange) (s
     (new : Heads) (w : Wanted) → IsPut (group_of rs r.kind) (length ranges) old skip new → AreLinked rs ranges skips old
     → (head_of new w ≤ length (r ∷ ranges))
     × (followed (r ∷ ranges) (skip ∷ skips) (length (r ∷ ranges) - head_of new w) ≡ wanted_in rs w (r ∷ ranges))
-put-visits rs r ranges skips old skip new w put linked =
-    grind (arith, put-within (length ranges), wanted-group rs, put.skips, put.heads w, linked.within, linked.follow)
+put-visits rs r ranges skips old skip new w put linked = grind (arith, put-within, wanted-group)
 
 -- One more part at the head.
 pub put-linked : (rs : List Resolution) (r : PartRange) (ranges : List PartRange)

@@ -3,16 +3,7 @@ use Rattle.cweb_store.proofs.Common.{arith, ◌≡◌, ℕ, ◌+◌, ◌||◌, L
 
 any-with_id : (n m : NameId) (ns : List NameId)
     → list_any (is_id n) (with_id ns m) ≡ (list_any (is_id n) ns || is_id n m)
-any-with_id n m ns =
-    grind (
-      arith,
-      list_any (is_id m) ns,
-      is_id n m,
-      eqb-true n.0 m.0,
-      list_any-append (is_id n) ns (m ∷ []),
-      or-false (list_any (is_id n) ns),
-      or-false (is_id n m),
-    )
+any-with_id n m ns = grind (arith, eqb-true, list_any-append, or-false)
 
 pub any-with_some : (n : NameId) (o : Option NameId) (ns : List NameId)
     → list_any (is_id n) (with_some ns o) ≡ (list_any (is_id n) ns || is_some_id n o)

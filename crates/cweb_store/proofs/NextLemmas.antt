@@ -69,8 +69,7 @@ next-is test ts part xs i m are count some here less =
 
 none-found : (test : Token → Bool) (ts : List Token) (part : Part) → part.first ≤ part.after
     → BeginsFrom part.after (token_numbers test part.first (drop part.first ts)) → IsNextNumber test ts part part.after
-none-found test ts part le from =
-    grind (arith, none-before test part.first (part.after - part.first) (drop part.first ts))
+none-found test ts part le from = grind (arith, none-before)
 
 pub next-none : (test : Token → Bool) (ts : List Token) (part : Part) (xs : List ℕ) (i : ℕ)
     → xs ≡ token_numbers test 0 ts → (IsNonDecreasing xs → i ≡ prefix_len (λ x. nat_lt x part.first) xs)

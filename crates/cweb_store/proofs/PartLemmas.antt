@@ -42,8 +42,7 @@ within_from test (p ∷ parts) n end h =
 -- The ranges are within the tokens.
 pub numbers-within : (test : PartKind → Bool) (parts : List Part)
     → All (λ (p : declared.Part). p.after ≤ length (all_tokens parts)) (numbers_where test parts)
-numbers-within test parts = All-from_recursion (λ (p : declared.Part). p.after ≤ length (all_tokens parts))
-    (numbers_where test parts) (within_from test parts 0 (length (all_tokens parts)) (omega arith))
+numbers-within test parts = grind (arith, All-from_recursion, within_from)
 
 ordered_from : (test : PartKind → Bool) (parts : List Part) (n : ℕ)
     → AllByRecursion (λ (p : declared.Part). p.first ≤ p.after) (numbers_from test n parts)

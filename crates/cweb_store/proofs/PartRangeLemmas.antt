@@ -29,13 +29,7 @@ pub runs_from-parts : (ranges : List PartRange) (ts : List Token) (n end : ℕ)
     → RangesFollow n ranges end → end ≤ length ts → ranges_from n (map (closed_in ts) ranges) ≡ ranges
 runs_from-parts [] ts n end h within = refl
 runs_from-parts (r ∷ ranges) ts n end h within =
-    grind (
-      arith,
-      Follow-le r.part.after end ranges h.2,
-      length-take-le (r.part.after - r.part.first) (drop r.part.first ts),
-      length-drop r.part.first ts,
-      runs_from-parts ranges ts r.part.after end h.2 within,
-    )
+    grind (arith, Follow-le, length-take-le, length-drop, runs_from-parts ranges ts r.part.after end h.2 within)
 
 slice_range-drop : (ts : List Token) (n i j : ℕ) → i ≡ n → n ≤ j → slice_range ts i j ++ drop j ts ≡ drop n ts
 slice_range-drop ts n i j same le = grind (arith, drop-drop (j - i) i ts, take-append-drop (j - i) (drop i ts))
@@ -85,19 +79,13 @@ close-parts ts ranges o places tied = grind (arith, take_all, length-drop, map-a
 
 pub close-are : (ts : List Token) (ranges : List PartRange) (o : Open) (places more : ℕ)
     → ArePartRanges ts ranges (Some o) places → ArePartRanges ts (ranges ++ last_range o (length ts) ∷ []) None more
-close-are ts ranges o places more tied =
-    grind (
-      arith,
-      Follow-push 0 o.first (length ts) ranges o.kind tied.follow tied.within,
-      length-append ranges (last_range o (length ts) ∷ []),
-    )
+close-are ts ranges o places more tied = grind (arith, Follow-push, length-append)
 
 -- The open part loses its last tokens.
 cut-closed : (ts : List Token) (ranges : List PartRange) (o : Open) (places n : ℕ)
     → ArePartRanges ts ranges (Some o) places
     → o.first ≤ n → map (closed_in (take n ts)) ranges ≡ map (closed_in ts) ranges
-cut-closed ts ranges o places n tied le =
-    parts-add_string ranges (take n ts) ts 0 o.first tied.follow (take-take o.first n ts le)
+cut-closed ts ranges o places n tied le = grind (arith, parts-add_string, take-take)
 
 pub cut-parts : (ts : List Token) (ranges : List PartRange) (o : Open) (places n : ℕ) (p : Part)
     → ArePartRanges ts ranges (Some o) places → o.first ≤ n → open_in (take n ts) o ≡ p →

@@ -26,18 +26,15 @@ token-grow strings more places others from (Number n) h at le = ap spec.Number (
 token-grow strings more places others from (Literal n) h at le = ap spec.Literal (get_or-append strings more [] n h)
 token-grow strings more places others from (Verbatim n) h at le = ap spec.Verbatim (get_or-append strings more [] n h)
 token-grow strings more places others from (Punct n) h at le = ap spec.Punct (get_or-append strings more [] n h)
-token-grow strings more places others from (Mark n) h at le =
-    ap spec.Mark (get_or-append places others _ n (omega (arith, at, le)))
+token-grow strings more places others from (Mark n) h at le = grind (arith, get_or-append)
 token-grow strings more places others from _ h at le = refl
 
 pub tokens-grow : (strings more : List (List ℕ)) (places others : List Place) (from : ℕ) (rs : List Record)
     → AreRecords (length strings) from rs (length places)
     → tokens_of (strings ++ more) (places ++ others) rs ≡ tokens_of strings places rs
 tokens-grow strings more places others from [] h = refl
-tokens-grow strings more places others from (r ∷ rs) h = λ i.
-    token-grow strings more places others from r h.0 h.1
-    (records-le (length strings) (from + places_of r) (length places) rs h.2) i
-    ∷ tokens-grow strings more places others (from + places_of r) rs h.2 i
+tokens-grow strings more places others from (r ∷ rs) h =
+    grind (arith, token-grow, records-le, tokens-grow strings more places others (from + places_of r) rs h.2)
 
 within-grow : (n m : ℕ) (r : Record) → n ≤ m → StringIsWithin n r → StringIsWithin m r
 within-grow n m (Word k) le h = omega (arith, le, h)
@@ -83,9 +80,7 @@ split : (n from count : ℕ) (rs : List Record) (end : ℕ) → AreRecords n fro
 split n from zero [] end h = record { number = from; prefix = refl; rest = h }
 split n from (suc count) [] end h = record { number = from; prefix = refl; rest = h }
 split n from zero (r ∷ rs) end h = record { number = from; prefix = refl; rest = h }
-split n from (suc count) (r ∷ rs) end h =
-    let s = split n (from + places_of r) count rs end h.2 in
-    record { number = s.number; prefix = (h.0, h.1, s.prefix); rest = s.rest }
+split n from (suc count) (r ∷ rs) end h = grind (arith, split n (from + places_of r) count rs end h.2)
 
 pub cut-is : (n count : ℕ) (rs last : List Record) (places all k : ℕ) → AreRecords n 0 rs places
     → last ≡ drop count rs → all ≡ places → ((m number : ℕ) → AreRecords m number last all → k ≡ number)

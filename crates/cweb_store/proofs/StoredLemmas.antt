@@ -92,9 +92,7 @@ first-at os (m ∷ ns) zero k forms h is =
     let yields : option_map (λ (o : Occurrence). o.text) (slice_get os k) ≡ Some m.text =
     ap (λ j. option_map (λ (o : Occurrence). o.text) (slice_get os j)) is ∙ forms.0 in
     record { within = get-within os k m.text yields; same = sym yields }
-first-at os (m ∷ ns) (suc n) k forms h is =
-    let later = first-at os ns n k forms.1 (omega arith) is in
-    record { within = later.within; same = later.same }
+first-at os (m ∷ ns) (suc n) k forms h is = grind (arith, first-at os ns n k forms.1 (omega arith) is)
 
 first-place : (os : List Occurrence) (n k : ℕ) → n < length (names os)
     → k ≡ get_or (map (λ (m : Name). m.first) (names os)) n k → IsFirst os (names os) n k

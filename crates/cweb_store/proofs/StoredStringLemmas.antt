@@ -99,8 +99,7 @@ pub store-bytes : (tokens : List Token) (ranges : List PartRange) (strings : Lis
     → IsWhole tokens ranges → length strings ≡ length forms + length replaced
     → interned_token_bytes tokens + length (text_bytes strings)
     ≡ interned_store_bytes (stored_in tokens ranges strings forms replaced)
-store-bytes tokens ranges strings forms replaced whole size =
-    cc (whole-tokens tokens ranges whole, bytes-total strings, others-total strings forms replaced size)
+store-bytes tokens ranges strings forms replaced whole size = grind (arith, whole-tokens, bytes-total, others-total)
 
 -- Interning never needs more bytes.
 pub bytes-few : (s : Stored) → interned_store_bytes s ≤ uninterned_store_bytes s

@@ -14,8 +14,7 @@ numbers-push test n (u ∷ us) t = grind (arith, numbers-push test (n + 1) us t,
 
 pub index-push : (old new : TokenIndex) (n : ℕ) (ts : List Token) (t : Token) → IsTokenIndex old ts → n ≡ length ts
     → AddsNumber old n t new → IsTokenIndex new (ts ++ t ∷ [])
-index-push old new n ts t are count adds =
-    grind (arith, numbers-push is_name_use 0 ts t, numbers-push is_defs 0 ts t)
+index-push old new n ts t are count adds = grind (arith, numbers-push)
 
 -- The indices ascend from the first token's on.
 from-cons : (n : ℕ) (xs : List ℕ) (k d : ℕ)
@@ -58,14 +57,7 @@ record AreCut (test : Token → Bool) (n k bound : ℕ) (ts : List Token) : Type
       ≡ token_numbers test bound (drop k ts)
 
 numbers-cut : (test : Token → Bool) (n k bound : ℕ) (ts : List Token) → bound ≡ n + k → AreCut test n k bound ts
-numbers-cut test n zero bound ts e =
-    let xs = token_numbers test n ts in
-    let none = none-below test n bound ts (omega arith) in
-    let same : n ≡ bound = omega arith in
-    record {
-      prefix = ap (λ i. take i xs) none;
-      back = ap (λ i. drop i xs) none ∙ ap (λ m. token_numbers test m ts) same;
-    }
+numbers-cut test n zero bound ts e = grind (arith, none-below)
 numbers-cut test n (suc k) bound [] e = record { prefix = refl; back = refl }
 numbers-cut test n (suc k) bound (t ∷ ts) e =
     let later = numbers-cut test (n + 1) k bound ts (omega arith) in

@@ -11,8 +11,4 @@ loop-i-init c =
     }
 
 pub returns : goal.returns
-returns c = λ byte h.
-    let places = c.loop-i.places.items in
-    let none = drop_all c.loop-i.i c.args.bytes.now c.loop-i-test.false in
-    slice_get-get_or places byte None (omega (arith, h, c.loop-i.invariant.all))
-    ∙ ap Some (ap (last_from byte _ c.loop-i.i) (sym none) ∙ c.loop-i.invariant.last byte h)
+returns c = grind (arith, drop_all, slice_get-get_or)

@@ -23,21 +23,7 @@ string_after-requires c =
     )
 
 pub returns-in_default : goal.returns-in_default
-returns-in_default c =
-    let s = c.self.inside in
-    let here = c.self.invariant.last c.args.byte (omega (arith, c.ranges.byte.fits)) in
-    let last = sym (get_or_from_slice_get s.last_places.items _ _ _ here) ∙ sym c.index.ensures in
-    sym (ap (λ v. replacement v.replacements c.args.byte) (sym c.self.view_is)
-    ∙ replacement-at s.strings (length s.forms.items) s.replaced.items c.args.byte None c.self.invariant.strings
-    (last ∙ c.in_default.is))
+returns-in_default c = grind (arith, get_or_from_slice_get, replacement-at)
 
 pub returns : goal.returns
-returns c =
-    let s = c.self.inside in
-    let here = c.self.invariant.last c.args.byte (omega (arith, c.ranges.byte.fits)) in
-    let last = sym (get_or_from_slice_get s.last_places.items _ _ _ here) ∙ sym c.index.ensures in
-    let k = c.in-Some.number in
-    let place : length s.forms.items + k ≡ c.len.result + k = omega (arith, c.len.ensures, s.forms.ok.0) in
-    sym (ap (λ v. replacement v.replacements c.args.byte) (sym c.self.view_is)
-    ∙ replacement-at s.strings (length s.forms.items) s.replaced.items c.args.byte (Some k) c.self.invariant.strings
-    (last ∙ c.in-Some.is) ∙ ap (slice_get s.strings) place ∙ c.string_after.ensures)
+returns c = grind (arith, get_or_from_slice_get, replacement-at)

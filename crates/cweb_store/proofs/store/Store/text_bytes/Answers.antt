@@ -7,12 +7,7 @@ returns-clause-strings c = grind (arith, store-strings)
 
 once : (c : goal.After-text_bytes-2)
     → c.text_bytes.result + c.text_bytes-2.result ≡ interned_store_bytes c.args.self.now
-once c =
-    let s = c.self.inside in
-    let bytes = store-bytes s.tokens s.ranges.items s.strings s.forms.items s.replaced.items c.self.invariant.whole
-    c.self.invariant.strings in
-    let both = bytes ∙ ap interned_store_bytes c.self.view_is in
-    omega (arith, c.text_bytes.ensures.once, c.text_bytes-2.ensures.bytes, both)
+once c = grind (arith, store-bytes)
 
 pub returns-clause-once : goal.returns-clause-once
 returns-clause-once c = once c

@@ -38,14 +38,4 @@ returns-clause-within c =
     (numbers-within (is_wanted (spec.resolutions c.args.self.now.occurrences) c.args.wanted) ps)
 
 pub returns-clause-few : goal.returns-clause-few
-returns-clause-few c =
-    let s = c.self.inside in
-    let kept = filter (λ (r : PartRange). is_wanted s.resolutions.items c.args.wanted r.kind) s.ranges.items in
-    omega (
-      arith,
-      ap length (met c),
-      length-map kept (λ (r : PartRange). r.part),
-      length-filter (λ (r : PartRange). is_wanted s.resolutions.items c.args.wanted r.kind) s.ranges.items,
-      count_by-le-length (λ (r : PartRange). is_wanted s.resolutions.items c.args.wanted r.kind) s.ranges.items,
-      c.self.invariant.whole.few_parts,
-    )
+returns-clause-few c = grind (arith, met, length-map, length-filter, count_by-le-length)

@@ -15,15 +15,8 @@ kept-packs : {old new : StringTableModel} {places : List Place} {string : List �
     → with_word_of old.words token ≡ old.words
     → other_bytes token ≡ length string → length (filter has_string (token ∷ [])) ≡ 1
     → InternsToken old token places item new
-kept-packs {new} {string} {number} token item keeps within stored no_word bytes one = record {
-  more = keeps.more;
-  grows = keeps.grows;
-  within = within (slice_get_within new.strings number string keeps.stored);
-  stored = stored (get-string new.strings number string keeps.stored);
-  words = rw no_word keeps.words;
-  bytes = rw no_word (omega (arith, keeps.bytes, bytes));
-  few = omega (arith, keeps.few, one);
-}
+kept-packs {new} {string} {number} token item keeps within stored no_word bytes one =
+    grind (arith, slice_get_within, get-string)
 
 -- The record of an interned string.
 word-packs : {old new : StringTableModel} {places : List Place} {word : List ℕ} {number : ℕ} (token : spec.Token)
@@ -33,30 +26,14 @@ word-packs : {old new : StringTableModel} {places : List Place} {word : List ℕ
     → with_word_of old.words token ≡ with_word old.words word
     → other_bytes token ≡ 0 → length (filter has_string (token ∷ [])) ≡ 1
     → InternsToken old token places item new
-word-packs {new} {word} {number} token item keeps within stored is_word none one = record {
-  more = keeps.more;
-  grows = keeps.grows;
-  within = within (slice_get_within new.strings number word keeps.stored);
-  stored = stored (get-string new.strings number word keeps.stored);
-  words = rw is_word keeps.words;
-  bytes = rw is_word (omega (arith, keeps.bytes, none));
-  few = omega (arith, keeps.few, one);
-}
+word-packs {new} {word} {number} token item keeps within stored is_word none one =
+    grind (arith, slice_get_within, get-string)
 
 pub returns-in_ok-intern_punctuator-in-Punct-clause-packs : goal.returns-in_ok-intern_punctuator-in-Punct-clause-packs
-returns-in_ok-intern_punctuator-in-Punct-clause-packs c =
-    rw c.in-Punct.is (word-packs (spec.Punct c.in-Punct.string.now)
-    (record_of.Punct c.in_ok-intern_punctuator-in-Punct.field-0)
-    c.in_ok-intern_punctuator-in-Punct.ensures (λ w. w) (ap spec.Punct) refl refl refl)
+returns-in_ok-intern_punctuator-in-Punct-clause-packs c = grind (arith, word-packs)
 
 pub returns-in_ok-add_string-in-Literal-clause-packs : goal.returns-in_ok-add_string-in-Literal-clause-packs
-returns-in_ok-add_string-in-Literal-clause-packs c =
-    rw c.in-Literal.is (kept-packs (spec.Literal c.in-Literal.string.now)
-    (record_of.Literal c.in_ok-add_string-in-Literal.field-0)
-    c.in_ok-add_string-in-Literal.ensures (λ w. w) (ap spec.Literal) refl (omega arith) refl)
+returns-in_ok-add_string-in-Literal-clause-packs c = grind (arith, kept-packs)
 
 pub returns-in_ok-add_string-in-Verbatim-clause-packs : goal.returns-in_ok-add_string-in-Verbatim-clause-packs
-returns-in_ok-add_string-in-Verbatim-clause-packs c =
-    rw c.in-Verbatim.is (kept-packs (spec.Verbatim c.in-Verbatim.string.now)
-    (record_of.Verbatim c.in_ok-add_string-in-Verbatim.field-0)
-    c.in_ok-add_string-in-Verbatim.ensures (λ w. w) (ap spec.Verbatim) refl (omega arith) refl)
+returns-in_ok-add_string-in-Verbatim-clause-packs c = grind (arith, kept-packs)

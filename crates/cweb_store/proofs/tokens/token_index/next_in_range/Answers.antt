@@ -14,6 +14,4 @@ returns-then-number-part c = λ test tokens are. next-is test tokens c.args.part
     (sym c.in-Some.ensures.lookup.0)) c.in-Some.ensures.lookup.1 (omega (arith, c.if-number-part.true))
 
 pub returns : goal.returns
-returns c = λ test tokens are. next-past test tokens c.args.part c.args.numbers.now c.count_below.result
-    c.in-Some.number.now are c.count_below.ensures c.requires (ltb-true c.count_below.result (length c.args.numbers.now)
-    (sym c.in-Some.ensures.lookup.0)) c.in-Some.ensures.lookup.1 (omega (arith, c.if-number-part.false))
+returns c = λ test tokens are. grind (arith, next-past, ltb-true)

@@ -7,14 +7,10 @@ use Rattle.cweb_store.proofs.parts.closed.ClosedParts.uses.Goals as goal
 use Rattle.cweb_store.proofs.parts.closed.ClosedParts.uses.Goals.{then-not-is_macro, else-not-is_macro}
 
 pub flag_uses-requires-clause-ordered : goal.flag_uses-requires-clause-ordered
-flag_uses-requires-clause-ordered c = rw c.deref-range-items.ensures.value
-    (Follow-at c.self.inside.ranges.items 0 (length c.self.inside.tokens) c.self.invariant.follow
-    c.loop-range.range-index _ (omega (arith, c.loop-range-test.true, ap length c.deref-range-items.ensures.value))).0
+flag_uses-requires-clause-ordered c = grind (arith, Follow-at)
 
 pub flag_uses-requires-clause-within : goal.flag_uses-requires-clause-within
-flag_uses-requires-clause-within c = rw c.deref-range-items.ensures.value
-    (Follow-at c.self.inside.ranges.items 0 (length c.self.inside.tokens) c.self.invariant.follow
-    c.loop-range.range-index _ (omega (arith, c.loop-range-test.true, ap length c.deref-range-items.ensures.value))).1
+flag_uses-requires-clause-within c = grind (arith, Follow-at)
 
 pub loop-range-preserved : goal.loop-range-preserved
 loop-range-preserved c = record {

@@ -12,10 +12,4 @@ direct-requires c =
     (slice_get-get_or s.records.now c.args.number _ within)).0
 
 pub returns : goal.returns
-returns c =
-    let s = c.self.inside in
-    let within : c.args.number < length s.records.now =
-    omega (arith, c.requires, ap length c.self.view_is, length-map s.records.now (direct_bytes_of_record s.strings)) in
-    rw (← c.self.view_is) (slice_get-map (direct_bytes_of_record s.strings) s.records.now c.args.number
-    ∙ ap (option_map (direct_bytes_of_record s.strings)) (slice_get-get_or s.records.now c.args.number _ within)
-    ∙ ap Some (sym c.direct.ensures))
+returns c = grind (arith, length-map, slice_get-map, slice_get-get_or)
