@@ -1,5 +1,5 @@
 -- Laws of dropped layout and of the tokens that stay.
-use Rattle.cweb_store.proofs.Common.{arith, ◌≡◌, ℕ, zero, Bool, true, false, List, [], ◌∷◌, ◌++◌, take, drop, refl, sym, ◌∙◌, ap, append_assoc, append-nil, if◌then◌else◌, take-append-drop, Token, Newline, Blank, Part, at_close, before_last, is_macro, is_newline, without_blank, without_last, without_last_after, protected_count, is_layout, IsLeft, OnlyLayoutIsDropped}
+use Rattle.cweb_store.proofs.Common.{arith, ◌≡◌, ℕ, zero, Bool, true, false, List, [], ◌∷◌, take, drop, refl, sym, ap, append_assoc, append-nil, if◌then◌else◌, take-append-drop, Token, Newline, Blank, Part, at_close, before_last, is_macro, is_newline, without_blank, without_last, without_last_after, is_layout, IsLeft, OnlyLayoutIsDropped}
 use Rattle.std.specs.List.{list_all}
 use Rattle.std.proofs.lemmas.Bool.{and_from}
 use Rattle.std.proofs.lemmas.List.Folds.{list_all-append}

@@ -1,23 +1,12 @@
 -- Following the links visits exactly the wanted parts.
-use Rattle.cweb_store.proofs.Common.{◌||◌, nat_lt, list_any, is_of, has_head, NameId, ◌≡◌, ℕ, zero, suc, ◌+◌, ◌-◌, ◌≤◌, Bool, true, false, List, [], ◌∷◌, Option, Some, length, drop, ◌++◌, get_or, refl, sym, ◌∙◌, ap, arith, length-drop, slice_get, if◌then◌else◌, take_all, PartKind, Unnamed, Named, Macro, PartRange, Resolution, is_wanted, followed, AreLinked, slice_range}
+use Rattle.cweb_store.proofs.Common.{◌||◌, nat_lt, list_any, is_of, has_head, NameId, ◌≡◌, ℕ, zero, suc, ◌+◌, ◌-◌, ◌≤◌, Bool, true, false, List, [], ◌∷◌, Some, length, drop, ◌++◌, get_or, refl, ◌∙◌, ap, arith, length-drop, slice_get, if◌then◌else◌, take_all, PartRange, Resolution, followed, AreLinked, slice_range}
 use Rattle.std.proofs.Common.{reverse, drop-cons}
 use Rattle.std.proofs.lemmas.List.{reverse-append}
 use Rattle.cweb_store.specs.declared.parts.iter.Wanted.{Wanted}
-use Rattle.cweb_store.specs.declared.parts.iter.Wanted.TheVariants.{Program, OfName, Macros}
+use Rattle.cweb_store.specs.declared.parts.iter.Wanted.TheVariants.{OfName}
 use Rattle.cweb_store.specs.declared.parts.links.Heads.{Heads}
-use Rattle.cweb_store.specs.inner.Links.{group_of, is_group, head_of, IsPut}
+use Rattle.cweb_store.specs.inner.Links.{head_of, IsPut}
 use Rattle.cweb_store.specs.inner.Wanted.{wanted_in}
-
--- A part is wanted exactly if its group is.
-wanted-group : (rs : List Resolution) (w : Wanted) (kind : PartKind)
-    → is_wanted rs w kind ≡ is_group w (group_of rs kind)
-wanted-group rs Program Unnamed = refl
-wanted-group rs Program (Named name) = grind arith
-wanted-group rs Program Macro = refl
-wanted-group rs (OfName n) (Named name) = grind (arith, OfName n)
-wanted-group rs Macros (Named name) = grind arith
-wanted-group rs _ Unnamed = refl
-wanted-group rs _ Macro = refl
 
 put-within : (ranges n m : ℕ) (b : Bool) → n ≡ (if b then ranges + 1 else m) → m ≤ ranges → n ≤ ranges + 1
 put-within ranges n m true is le = omega arith
@@ -28,23 +17,28 @@ head-some true ranges h = grind arith
 head-some false ranges h = refl
 
 put-some : (rs : List Resolution) (r : PartRange) (ranges : List PartRange) (skips : List ℕ) (old : Heads) (skip : ℕ)
-    (new : Heads) (n : NameId) → IsPut (group_of rs r.kind) (length ranges) old skip new → AreLinked rs ranges skips old
+    (new : Heads) (n : NameId) → IsPut rs r.kind (length ranges) old skip new → AreLinked rs ranges skips old
     → has_head new n ≡ (is_of rs n r.kind || list_any (λ (r : PartRange). is_of rs n r.kind) ranges)
 put-some rs r ranges skips old skip new n put linked = ap (nat_lt 0) (put.heads (OfName n))
-    ∙ head-some (is_group (OfName n) (group_of rs r.kind)) (length ranges) (head_of old (OfName n))
-    ∙ (λ i. sym (wanted-group rs (OfName n) r.kind) i || linked.some n i)
+    ∙ head-some (is_of rs n r.kind) (length ranges) (head_of old (OfName n))
+    ∙ ap (λ b. is_of rs n r.kind || b) (linked.some n)
 
 put-visits : (rs : List Resolution) (r : PartRange) (ranges : List PartRange) (skips : List ℕ) (old : Heads) (skip : ℕ)
-    (new : Heads) (w : Wanted) → IsPut (group_of rs r.kind) (length ranges) old skip new → AreLinked rs ranges skips old
+    (new : Heads) (w : Wanted) → IsPut rs r.kind (length ranges) old skip new → AreLinked rs ranges skips old
     → (head_of new w ≤ length (r ∷ ranges))
     × (followed (r ∷ ranges) (skip ∷ skips) (length (r ∷ ranges) - head_of new w) ≡ wanted_in rs w (r ∷ ranges))
-put-visits rs r ranges skips old skip new w put linked = grind (arith, put-within, wanted-group)
+put-visits rs r ranges skips old skip new w put linked =
+    grind (arith, put-within (length ranges), put.skips w, put.heads w, linked.within, linked.follow)
 
 -- One more part at the head.
 pub put-linked : (rs : List Resolution) (r : PartRange) (ranges : List PartRange)
-    (skips : List ℕ) (old : Heads) (skip : ℕ) (new : Heads) → IsPut (group_of rs r.kind) (length ranges) old skip new
+    (skips : List ℕ) (old : Heads) (skip : ℕ) (new : Heads) → IsPut rs r.kind (length ranges) old skip new
     → AreLinked rs ranges skips old → AreLinked rs (r ∷ ranges) (skip ∷ skips) new
-put-linked rs r ranges skips old skip new put linked = grind (arith, put-visits, put-some)
+put-linked rs r ranges skips old skip new put linked = record {
+  within = λ w. (put-visits rs r ranges skips old skip new w put linked).0;
+  follow = λ w. (put-visits rs r ranges skips old skip new w put linked).1;
+  some = λ n. put-some rs r ranges skips old skip new n put linked;
+}
 
 -- The first visited part, and the parts after it.
 pub followed-none : (ranges : List PartRange) (skips : List ℕ) (n : ℕ) → length ranges ≤ n
@@ -79,17 +73,16 @@ followed-next ranges skips n r skip here there = grind (arith, followed-some, th
 
 -- One more part at the head, since links are built from the last part backwards.
 pub step-linked : (rs : List Resolution) (ranges : List PartRange) (i after skip : ℕ) (d : PartRange)
-    (kept more : List ℕ) (group : Option Wanted) (old new : Heads) → group ≡ group_of rs (get_or ranges i d).kind
-    → suc i + after ≡ length ranges → IsPut group after old skip new → more ≡ kept ++ skip ∷ []
+    (kept more : List ℕ) (old new : Heads) → suc i + after ≡ length ranges
+    → IsPut rs (get_or ranges i d).kind after old skip new → more ≡ kept ++ skip ∷ []
     → AreLinked rs (drop (suc i) ranges) (reverse kept) old → AreLinked rs (drop i ranges) (reverse more) new
-step-linked rs ranges i after skip d kept more group old new belongs count put is linked =
+step-linked rs ranges i after skip d kept more old new count put is linked =
     grind (
       arith,
       length-drop (suc i) ranges,
       drop-cons ranges i d,
       reverse-append kept (skip ∷ []),
       put-linked rs (get_or ranges i d) (drop (suc i) ranges) (reverse kept) old skip new,
-      belongs,
       count,
       put,
       is,

@@ -1,14 +1,15 @@
 // Links from each part to the next part of its group.
 
-ghost use Rattle.std.specs.Prelude.{◌≡◌, ◌<◌, ◌≤◌, [], length, IfOk, IfSome};
+ghost use Rattle.std.specs.Prelude.{◌≡◌, ◌<◌, ◌≤◌, [], length, IfOk};
 ghost use Rattle.cweb_names.specs.surface.Names.{too_many};
-ghost use Rattle.cweb_store.specs.inner.Links.{AreLinked, IsAmong, IsPut, group_of, head_of};
+ghost use Rattle.cweb_store.specs.inner.Links.{AreLinked, IsPut, head_of};
 ghost use Rattle.cweb_store.specs.inner.NameUses.{AreWithin};
 
 use crate::parts::iter::Wanted;
 use crate::parts::{PartKind, PartRange};
 use cweb_names::{NameId, NameKind, resolved_at};
 use std::alloc::{AllocError, Global};
+use std::mem::replace;
 
 /// For the program, the macros and each name: the number of parts from its first one to the end, or 0 if it has none.
 #[derive(Drop)]
@@ -52,22 +53,24 @@ impl Heads {
     }
 
     /// Prepends a part to `after` others. Returns how many of them are before the next one of its group.
-    fn put(&mut self, group: Option<Wanted>, after: u32) -> u32
-        requires among { IsAmong (length self.old.names.items) group }
-        requires within { IfSome group (λ wanted. head_of self.old wanted ≤ after) }
+    fn put(
+        &mut self,
+        resolutions: &[Result<NameId, NameKind>],
+        kind: PartKind,
+        after: u32,
+    ) -> u32
+        requires known { AreWithin resolutions.now (length self.old.names.items) }
         requires few { after < too_many }
-        ensures { IsPut group after self.old result self.new }
+        ensures { IsPut resolutions.now kind after self.old result self.new }
     {
-        let Some(wanted) = group else {
-            return 0;
-        };
-        let skip = after - self.get(wanted);
-        match wanted {
-            Wanted::Program => self.program = after + 1,
-            Wanted::Macros => self.macros = after + 1,
-            Wanted::OfName(id) => self.names[id.0 as usize] = after + 1,
+        match kind {
+            PartKind::Unnamed => after.saturating_sub(replace(&mut self.program, after + 1)),
+            PartKind::Macro => after.saturating_sub(replace(&mut self.macros, after + 1)),
+            PartKind::Named(name) => match resolved_at(resolutions, name.0 as usize) {
+                Some(id) => after.saturating_sub(replace(&mut self.names[id.0 as usize], after + 1)),
+                None => 0,
+            },
         }
-        skip
     }
 }
 
@@ -87,25 +90,10 @@ impl Links {
         let mut skips = Vec::with_capacity(alloc, ranges.len())?;
         let mut heads = Heads::none(alloc, names)?;
         for i in (0..ranges.len()).rev() {
-            let group = group_of(resolutions, ranges[i].kind);
-            let skip = heads.put(group, skips.len() as u32);
+            let skip = heads.put(resolutions, ranges[i].kind, skips.len() as u32);
             skips.push(skip)?;
         }
         skips.reverse();
         Ok(Links { skips, heads })
-    }
-}
-
-// The group that a part belongs to, if any.
-fn group_of(resolutions: &[Result<NameId, NameKind>], kind: PartKind) -> Option<Wanted>
-    ensures { result ≡ group_of resolutions.now kind }
-{
-    match kind {
-        PartKind::Unnamed => Some(Wanted::Program),
-        PartKind::Macro => Some(Wanted::Macros),
-        PartKind::Named(name) => match resolved_at(resolutions, name.0 as usize) {
-            Some(id) => Some(Wanted::OfName(id)),
-            None => None,
-        },
     }
 }

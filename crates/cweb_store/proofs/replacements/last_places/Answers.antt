@@ -1,4 +1,4 @@
-use Rattle.cweb_store.proofs.Common.{ℕ, List, Option, None, Some, length, get_or, sym, ◌∙◌, ap, arith, drop_all, get_or-replicate, slice_get-get_or, last_from}
+use Rattle.cweb_store.proofs.Common.{ℕ, List, Option, None, length, get_or, ◌∙◌, ap, arith, drop_all, get_or-replicate, slice_get-get_or, last_from}
 use Rattle.cweb_store.proofs.replacements.last_places.Goals as goal
 
 pub loop-i-init : goal.loop-i-init

@@ -1,4 +1,4 @@
-use Rattle.cweb_store.proofs.Common.{◌≡◌, ◌≤◌, length, ap, arith, occurrences_at}
+use Rattle.cweb_store.proofs.Common.{arith}
 use Rattle.cweb_names.proofs.OccurrenceTableLemmas.{occurrences-count}
 use Rattle.cweb_store.proofs.StoredLemmas.{occurrence-text}
 use Rattle.cweb_store.proofs.store.Store.occurrence_text.Goals as goal

@@ -1,4 +1,4 @@
-use Rattle.cweb_store.proofs.Common.{◌≡◌, ◌+◌, Some, None, length, sym, ◌∙◌, ap, arith, slice_get, get_or_from_slice_get, replacement}
+use Rattle.cweb_store.proofs.Common.{sym, ◌∙◌, arith, get_or_from_slice_get}
 use Rattle.std.proofs.lemmas.Option.{slice_get_within}
 use Rattle.cweb_store.proofs.StoredStringLemmas.{replacement-at, last-within}
 use Rattle.cweb_store.proofs.store.Store.replacement.Goals as goal

@@ -1,4 +1,4 @@
-use Rattle.cweb_store.proofs.Common.{◌≡◌, ◌+◌, ◌∙◌, ap, arith, interned_store_bytes}
+use Rattle.cweb_store.proofs.Common.{◌≡◌, ◌+◌, arith, interned_store_bytes}
 use Rattle.cweb_store.proofs.StoredStringLemmas.{store-strings, store-bytes, bytes-few}
 use Rattle.cweb_store.proofs.store.Store.text_bytes.Goals as goal
 

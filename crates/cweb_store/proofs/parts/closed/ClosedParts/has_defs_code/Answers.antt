@@ -1,4 +1,4 @@
-use Rattle.cweb_store.proofs.Common.{length, ap, arith}
+use Rattle.cweb_store.proofs.Common.{arith}
 use Rattle.cweb_store.proofs.RangeLemmas.{Follow-at}
 use Rattle.cweb_store.proofs.parts.closed.ClosedParts.has_defs_code.Goals as goal
 

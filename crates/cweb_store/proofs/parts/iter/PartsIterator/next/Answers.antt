@@ -1,4 +1,4 @@
-use Rattle.cweb_store.proofs.Common.{length, refl, sym, ◌∙◌, ap, arith, rules}
+use Rattle.cweb_store.proofs.Common.{arith}
 use Rattle.std.proofs.lemmas.Option.{slice_get_read}
 use Rattle.cweb_store.proofs.LinkLemmas.{followed-none, followed-ended, followed-next}
 use Rattle.cweb_store.proofs.parts.iter.PartsIterator.next.Goals as goal

@@ -14,7 +14,7 @@ loop-i-preserved c =
     in
     record {
       linked = step-linked c.args.resolutions.now ranges i c.len.result c.put-skip.result _ c.loop-i.skips.items
-          c.push.new.self.items c.group_of-group.result c.loop-i.heads c.put-skip.new.self c.group_of-group.ensures
+          c.push.new.self.items c.loop-i.heads c.put-skip.new.self
           (omega (arith, next, size, before.count))
           c.put-skip.ensures c.in_ok-push.ensures.items linked;
       names = c.put-skip.ensures.names ∙ before.names;

@@ -1,4 +1,4 @@
-use Rattle.cweb_store.proofs.Common.{◌<◌, ◌∙◌, Some, ap, arith, length, sym, length-map, slice_get-map, slice_get-get_or, option_map}
+use Rattle.cweb_store.proofs.Common.{◌<◌, ap, arith, length, length-map, slice_get-map, slice_get-get_or}
 use Rattle.cweb_store.specs.inner.TokenReaders.{direct_bytes_of_record}
 use Rattle.cweb_store.proofs.RecordLemmas.{record-at}
 use Rattle.cweb_store.proofs.tokens.token_reader.TokenReader.direct.Goals as goal
