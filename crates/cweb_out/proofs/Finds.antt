@@ -18,8 +18,7 @@ find-more p xs i x d l e h f =
 pub find-at : {X : Type 0} (p : X → Bool) (xs : List X) (i : ℕ) (x d : X) → i < length xs
     → x ≡ get_or xs i d → find p (take i xs) ≡ None → p x ≡ true → find p xs ≡ Some x
 find-at p [] i x d l e h t = absurd (omega (arith, l))
-find-at p (y ∷ ys) zero x d l e h t =
-    ap (λ z. cond (p z) (Some z) (find p ys)) (sym e) ∙ ap (λ b. cond b (Some x) (find p ys)) t
+find-at p (y ∷ ys) zero x d l e h t = grind arith
 find-at p (y ∷ ys) (suc i) x d l e h t =
     (elim (p y) as (λ b. cond b (Some y) (find p (take i ys)) ≡ None → cond b (Some y) (find p ys) ≡ Some x) [
       | true ↦ λ g. cc

@@ -42,22 +42,9 @@ use-shorter new t x = omega (arith, ap length x.same, length-append x.before (t 
 pub pass-part : (w : Stored) (f : Frame) (q : Part) (more : List Part) → f.defs ≡ false
     → list_any is_name_use (tokens_of_part w f.part) ≡ false → f.rest ≡ q ∷ more
     → PassesNoUse (suffix w f) (suffix w (record { owner = f.owner; defs = f.defs; part = q; rest = more }))
-pass-part w f q more d none e = record {
-  before = tokens_of_part w f.part;
-  none = none;
-  same = ap (λ b. defs_first b ++ (tokens_of_part w f.part ++ tokens_of_parts w f.rest)) d
-      ∙ ap (λ ps. tokens_of_part w f.part ++ tokens_of_parts w ps) e
-      ∙ ap (λ b. tokens_of_part w f.part ++ (defs_first b ++ tokens_of_parts w (q ∷ more))) (sym d);
-}
+pass-part w f q more d none e = grind arith
 
 pub pass-to-use : (w : Stored) (f : Frame) (q : Part) (t : Token) → f.defs ≡ false
     → PassesNoUse (tokens_of_part w f.part) (t ∷ tokens_of_part w q)
     → PassesNoUse (suffix w f) (t ∷ suffix w (record { owner = f.owner; defs = f.defs; part = q; rest = f.rest }))
-pass-to-use w f q t d x = record {
-  before = x.before;
-  none = x.none;
-  same = ap (λ b. defs_first b ++ (tokens_of_part w f.part ++ tokens_of_parts w f.rest)) d
-      ∙ ap (λ ts. ts ++ tokens_of_parts w f.rest) x.same
-      ∙ append_assoc x.before (t ∷ tokens_of_part w q) (tokens_of_parts w f.rest)
-      ∙ ap (λ b. x.before ++ (t ∷ (defs_first b ++ (tokens_of_part w q ++ tokens_of_parts w f.rest)))) (sym d);
-}
+pass-to-use w f q t d x = grind (arith, append_assoc)

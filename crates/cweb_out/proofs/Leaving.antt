@@ -6,12 +6,7 @@ use Rattle.cweb_out.proofs.Tops.{HasTop, lower, top_ended, TopMoved, top_moved, 
 
 -- A frame that was written is on top.
 pub top_again : {n : ℕ} {fs : List Frame} {f g : Frame} → HasTop n fs f → HasTop n (set fs (n - 1) g) g
-top_again {n} {fs} {g} h =
-    let c = h.count in
-    let some = h.some in
-    let same = length-set fs (n - 1) g in
-    let lt : n - 1 < length fs = omega arith in
-    record { count = omega arith; some = omega arith; is = sym (get_or-set_same fs (n - 1) g g lt) }
+top_again {n} {fs} {g} h = grind (arith, length-set, get_or-set_same)
 
 -- Less work remains for the suffix of the top frame.
 work-passed : (w : Stored) {n : ℕ} {fs : List Frame} {f : Frame} (g : Frame) (ts : List Token) → HasTop n fs f

@@ -54,19 +54,7 @@ pub goes-on : {w : Stored} {marks more : List Mark} (path : List Waiting) {mid a
     → g.name ≡ f.name → FrameIsWithin w g.text → FindsUnranked w marks (suffix w f.text) n (suffix w g.text)
     → mid ≡ path ++ g ∷ [] → Waited w marks mid n more after → Goes w marks (path ++ f ∷ []) more after None
 goes-on {w} path {after} f g {n} t c e i m p x =
-    let pop = chain-pop path f c in
-    let looked = looked-more t pop.1 m in
-    let chain : Chain w (path ++ g ∷ []) (Some n) = chain-push path g (rw e pop.0) (rw e looked) in
-    let long : after ≡ (path ++ g ∷ []) ++ x.top ∷ [] = x.long ∙ ap (λ (ps : List Waiting). ps ++ x.top ∷ []) p in
-    let longer : Chain w ((path ++ g ∷ []) ++ x.top ∷ []) None =
-    chain-push (path ++ g ∷ []) x.top (rw x.name chain) (rw x.name x.looked) in
-    record {
-      fits = x.fits;
-      chain = rw long longer;
-      begins = λ k b. rw long (begins-more w path g x.top k (begins-push w path f g k e b));
-      back = tt;
-      less = λ k. x.less;
-    }
+    grind (arith, chain-pop, looked-more, chain-push, begins-more, begins-push)
 
 -- The list of an output.
 uses-defs : (w : Stored) (b : Bool) (ts : List Token) → uses w (defs_first b ++ ts) ≡ uses w ts

@@ -100,17 +100,7 @@ fits-pop {w} {marks} {path} f t l r =
 -- The last waiting name advances in its list.
 pub fits-swap : {w : Stored} {marks : List Mark} (path : List Waiting) (f g : Waiting) → g.name ≡ f.name
     → FrameIsWithin w g.text → MarksFitPath w marks (path ++ f ∷ []) → MarksFitPath w marks (path ++ g ∷ [])
-fits-swap path f g e i t =
-    let same : path_of (path ++ g ∷ []) ≡ path_of (path ++ f ∷ []) =
-    path-push path g ∙ ap (λ n. path_of path ++ n ∷ []) e ∙ sym (path-push path f) in
-    record {
-      all = t.all;
-      ranked = t.ranked;
-      waits = λ n h. ap (list_any (is_id n)) same ∙ t.waits n h;
-      marked = λ n h. t.marked n (sym (ap (list_any (is_id n)) same) ∙ h);
-      new = subst (AreNew []) (sym same) t.new;
-      within = within-push path g (within-pop path f t.within).0 i;
-    }
+fits-swap path f g e i t = grind (arith, path-push, within-push, within-pop)
 
 -- A waiting name is one of the names.
 pub top-name : {w : Stored} {marks : List Mark} {path : List Waiting} (n : NameId)

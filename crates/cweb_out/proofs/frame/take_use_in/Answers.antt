@@ -3,14 +3,7 @@ use Rattle.cweb_store.proofs.RangeLemmas.{range-split, range-head}
 use Rattle.cweb_out.proofs.frame.take_use_in.Goals as goal
 
 pub returns-in-Name-clause-some : goal.returns-in-Name-clause-some
-returns-in-Name-clause-some c =
-    let here = c.token.ensures ∙ ap (λ t. Some (token_model t)) c.in-Name.is in
-    record {
-      before = [];
-      none = refl;
-      same = range-head (all_tokens c.args.store.now.parts) c.args.part.now.first c.args.part.now.after
-          (Name c.in-Name.name) here (omega (arith, c.if-part.false));
-    }
+returns-in-Name-clause-some c = grind (arith, range-head)
 
 pub returns-in-Name-token-clause-some : goal.returns-in-Name-token-clause-some
 returns-in-Name-token-clause-some c =

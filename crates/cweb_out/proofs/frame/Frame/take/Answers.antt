@@ -15,6 +15,4 @@ parts-preserved c =
     }
 
 pub returns-clause-some : goal.returns-clause-some
-returns-clause-some c = c.parts.invariant.same
-    ∙ suffix-first _ c.parts.invariant.started
-    (omega (arith, c.parts-test.false)) c.parts.invariant.within c.token-token.ensures
+returns-clause-some c = grind (arith, suffix-first)

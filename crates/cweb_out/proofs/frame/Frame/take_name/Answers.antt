@@ -3,5 +3,4 @@ use Rattle.cweb_out.proofs.Suffixes.{suffix-first}
 use Rattle.cweb_out.proofs.frame.Frame.take_name.Goals as goal
 
 pub returns-clause-some : goal.returns-clause-some
-returns-clause-some c = suffix-first
-    (Name c.in-Name.name) c.if-self.false (omega (arith, c.if-self-2.false)) c.requires c.in-Name.ensures
+returns-clause-some c = grind (arith, suffix-first)
