@@ -49,9 +49,7 @@ pub use Rattle.cweb_store.specs.Calls.{part_with_token, Contents, empty, Stored,
 pub use Rattle.cweb_store.specs.inner.OpenParts.{with_pushed_token}
 pub use Rattle.cweb_store.specs.surface.Growing.{all_parts}
 pub use Rattle.cweb_store.specs.Calls.{stored, replacement, Replacement}
-pub use Rattle.cweb_store.specs.inner.OpenParts.{replaced_by}
 pub use Rattle.cweb_store.specs.Faults.{fault_of_name, unresolved_faults}
-pub use Rattle.cweb_store.specs.inner.Faults.{unresolved_faults_from, faults_from}
 pub use Rattle.cweb_store.specs.Faults.{faults_where, faults, is_missing, is_use, is_used, has_part, unresolved_fault}
 pub use Rattle.cweb_store.specs.Parts.{before_last, without_last, without_blank, without_layout, at_close}
 pub use Rattle.cweb_store.specs.Parts.{protected_count, is_layout, is_newline, is_blank, without_last_after, Part}
@@ -64,25 +62,24 @@ pub use Rattle.cweb_store.specs.declared.parts.PartKind.TheVariants.{Unnamed, Na
 pub use Rattle.cweb_store.specs.declared.parts.PartRange.{PartRange}
 pub use Rattle.cweb_store.specs.declared.parts.links.Links.{Links}
 pub use Rattle.cweb_store.specs.declared.tokens.records.Record.{Record}
-pub use Rattle.cweb_store.specs.inner.Answers.{AreAnswers}
-pub use Rattle.cweb_store.specs.inner.BuilderCalls.{HoldsAtMost}
+pub use Rattle.cweb_store.specs.inner.Stored.{AreAnswers}
+pub use Rattle.cweb_store.specs.laws.BuilderCalls.{HoldsAtMost}
 pub use Rattle.cweb_store.specs.inner.DirectBytes.{direct_bytes}
-pub use Rattle.cweb_store.specs.inner.Faults.{fault_of_name_if}
 pub use Rattle.cweb_store.specs.inner.NameUses.{AreWithin, flag_of}
 pub use Rattle.cweb_store.specs.inner.Links.{has_head}
 pub use Rattle.cweb_store.specs.inner.Links.{followed, AreLinked}
 pub use Rattle.cweb_store.specs.inner.Next.{IsNextNumber, is_name_use}
 pub use Rattle.cweb_store.specs.inner.PartRanges.{ranges_from, IsWhole, closed_in, ArePartRanges, parts_in}
 pub use Rattle.cweb_store.specs.inner.Records.{AreRecords, InternsToken, StringIsWithin, token_of_record, tokens_of}
-pub use Rattle.cweb_store.specs.inner.Replaced.{replacement_in}
+pub use Rattle.cweb_store.specs.inner.Stored.{replacement_in}
 pub use Rattle.cweb_store.specs.inner.Stored.{replacements_at, stored_in, AreLast, AreStored, last_from}
 pub use Rattle.cweb_store.specs.inner.TokenIndexes.{token_numbers, IsTokenIndex}
-pub use Rattle.cweb_store.specs.inner.TokenStrings.{has_string}
+pub use Rattle.cweb_store.specs.surface.TokenStrings.{has_string}
 pub use Rattle.cweb_store.specs.inner.Trailing.{is_trailing}
-pub use Rattle.cweb_store.specs.inner.Wanted.{is_wanted, wanted_in}
+pub use Rattle.cweb_store.specs.inner.Links.{is_wanted, wanted_in}
 pub use Rattle.cweb_store.specs.laws.BuilderCalls.{call_model, accepted_calls, AcceptsCall, AcceptsCalls}
-pub use Rattle.cweb_store.specs.laws.Calls.{Call, Occurs, Opens, Pushes, Drops, Closes, Transliterates, after_call}
-pub use Rattle.cweb_store.specs.laws.Calls.{contents}
+pub use Rattle.cweb_store.specs.laws.BuilderCalls.{Call, Occurs, Opens, Pushes, Drops, Closes, Transliterates, after_call}
+pub use Rattle.cweb_store.specs.laws.BuilderCalls.{contents}
 pub use Rattle.cweb_store.specs.laws.Laws.{defines_with_prefix, AbbreviationsStay, EarlierNamesDecide}
 pub use Rattle.cweb_store.specs.laws.Laws.{FullNamesResolveToThemselves, JoiningConcatenates}
 pub use Rattle.cweb_store.specs.laws.Laws.{OccurrencesAreThoseOfCalls, occurrence_of_call}
@@ -92,7 +89,7 @@ pub use Rattle.cweb_store.specs.laws.MoreLaws.{left_of_macro}
 pub use Rattle.cweb_store.specs.laws.TokenLaws.{token_of_call, IsLeftOfTokens, TokensAreThosePushed}
 pub use Rattle.cweb_store.specs.surface.Growing.{part_count, token_count}
 pub use Rattle.cweb_store.specs.surface.Parts.{numbers_where, tokens_at}
-pub use Rattle.cweb_store.specs.surface.Replacements.{replacement_of}
+pub use Rattle.cweb_store.specs.surface.StoredStrings.{replacement_of}
 pub use Rattle.cweb_store.specs.surface.StoredStrings.{uninterned_store_bytes, interned_store_bytes, replacement_bytes}
 pub use Rattle.cweb_store.specs.surface.StoredStrings.{stored_strings}
 pub use Rattle.cweb_store.specs.surface.TokenModels.{token_model}

@@ -6,7 +6,7 @@ use Rattle.cweb_store.specs.declared.parts.iter.Wanted.{Wanted}
 use Rattle.cweb_store.specs.declared.parts.iter.Wanted.TheVariants.{OfName}
 use Rattle.cweb_store.specs.declared.parts.links.Heads.{Heads}
 use Rattle.cweb_store.specs.inner.Links.{head_of, IsPut}
-use Rattle.cweb_store.specs.inner.Wanted.{wanted_in}
+use Rattle.cweb_store.specs.inner.Links.{wanted_in}
 
 put-within : (ranges n m : ℕ) (b : Bool) → n ≡ (if b then ranges + 1 else m) → m ≤ ranges → n ≤ ranges + 1
 put-within ranges n m true is le = omega arith

@@ -1,7 +1,7 @@
 -- Records and their tokens: after more strings and places, of a prefix, and at an index.
-use Rattle.cweb_store.proofs.Common.{◌≡◌, ℕ, zero, suc, ◌+◌, ◌≤◌, true, false, cond, List, [], ◌∷◌, ◌++◌, Some, length, take, drop, refl, ap, arith, length-append, slice_get, map-append, direct_bytes, Place, Record}
+use Rattle.cweb_store.proofs.Common.{◌≡◌, ℕ, zero, suc, ◌+◌, ◌≤◌, List, [], ◌∷◌, ◌++◌, Some, length, take, drop, refl, ap, arith, length-append, slice_get, map-append, direct_bytes, Place, Record}
 use Rattle.std.proofs.Math.ListN.{get_or-append}
-use Rattle.cweb_store.specs.inner.Records.{token_of_record, tokens_of, has_place, StringIsWithin, PlaceHasNumber, places_of, AreRecords, AddsPlace, InternsToken, PlaceIsWithin}
+use Rattle.cweb_store.specs.inner.Records.{token_of_record, tokens_of, StringIsWithin, PlaceHasNumber, places_of, AreRecords, AddsPlace, InternsToken, PlaceIsWithin}
 use Rattle.cweb_store.specs.declared.tokens.records.Record.TheVariants.{Word, Number, Literal, Verbatim, Punct, Mark}
 use Rattle.cweb_texts.specs.inner.StringTables.{StringTableModel}
 use Rattle.cweb_store.specs.Parts as spec
@@ -11,7 +11,8 @@ records-le n from end [] h = omega (arith, h)
 records-le n from end (r ∷ rs) h = omega (arith, records-le n (from + places_of r) end rs h.2)
 
 one-place : (r : Record) → places_of r ≤ 1
-one-place r = elim (has_place r) as (λ b. cond b 1 0 ≤ 1) [ true ↦ omega arith | false ↦ omega arith ]
+one-place (Mark n) = omega arith
+one-place r = omega arith
 
 pub records-few : (n from end : ℕ) (rs : List Record) → AreRecords n from rs end → end ≤ from + length rs
 records-few n from end [] h = omega (arith, h)

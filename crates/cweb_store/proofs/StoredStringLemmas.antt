@@ -1,11 +1,15 @@
 -- The strings of a store: replacements, and the number of bytes.
-use Rattle.cweb_store.proofs.Common.{◌≡◌, ℕ, ◌+◌, ◌≤◌, ◌<◌, Bool, true, false, List, [], ◌∷◌, ◌++◌, Option, Some, None, map, length, drop, refl, sym, ap, subst, arith, length-append, length-drop, flat_map, slice_get, option_and_then, nat_eq, if◌then◌else◌, OccurrenceForm, PartRange, Token, all_tokens, replaced_by, replacement, IsWhole, closed_in, Stored, total, token_strings, interned_token_bytes, occurrence_text, replacement_bytes, stored_strings, uninterned_store_bytes, interned_store_bytes, AreSpansOf, AreInOneList, occurrences_at, replacements_at, last_from, stored_in}
+use Rattle.cweb_store.proofs.Common.{◌≡◌, ℕ, ◌+◌, ◌≤◌, ◌<◌, Bool, true, false, List, [], ◌∷◌, ◌++◌, Option, Some, None, map, length, drop, refl, sym, ap, subst, arith, length-append, length-drop, flat_map, slice_get, option_and_then, nat_eq, if◌then◌else◌, OccurrenceForm, PartRange, Token, all_tokens, fold, Replacement, replacement, IsWhole, closed_in, Stored, total, token_strings, interned_token_bytes, occurrence_text, replacement_bytes, stored_strings, uninterned_store_bytes, interned_store_bytes, AreSpansOf, AreInOneList, occurrences_at, replacements_at, last_from, stored_in}
 use Rattle.cweb_store.proofs.RangeLemmas.{drop-here}
 use Rattle.cweb_texts.proofs.ListLemmas.{get-drop}
 use Rattle.cweb_texts.specs.inner.StringLists.{text_bytes}
 use Rattle.cweb_store.proofs.WordLemmas.{kept-few}
 use Rattle.cweb_store.proofs.TokenStringLemmas.{all-drop, all-both, all-before, all-after, strings-valid, bytes-total}
 use Rattle.cweb_store.proofs.PartRangeLemmas.{whole-tokens}
+
+-- The replacement of a byte after more calls: the last one wins.
+abbrev replaced_by : ℕ → Option (List ℕ) → List Replacement → Option (List ℕ)
+replaced_by byte text rs = fold (λ text r. if nat_eq r.byte byte then Some r.text else text) text rs
 
 -- The replacement of a byte is the last one.
 abbrev at_last : List (List ℕ) → Option ℕ → Option (List ℕ)

@@ -1,5 +1,4 @@
 -- Definitions that only laws cite.
-pub mod Calls
 pub mod BuilderCalls
 pub mod TokenLaws
 pub mod Laws

@@ -3,5 +3,4 @@ pub mod Parts
 pub mod Growing
 pub mod TokenModels
 pub mod TokenStrings
-pub mod Replacements
 pub mod StoredStrings

@@ -3,7 +3,7 @@
 ghost use Rattle.std.specs.Prelude.{◌≡◌, ◌<◌, ◌≤◌, ◌+◌, length, IsSome, IsNone, is_some, IfOk};
 ghost use Rattle.std.specs.Prelude.{IsTrue, OnOk, OnErr};
 ghost use Rattle.cweb_store.specs.surface.Growing.{part_count, token_count};
-ghost use Rattle.cweb_store.specs.surface.Replacements.{replacement_of};
+ghost use Rattle.cweb_store.specs.surface.StoredStrings.{replacement_of};
 ghost use Rattle.cweb_store.specs.Calls.{empty, finished, with_closed, with_dropped};
 ghost use Rattle.cweb_store.specs.Calls.{with_occurrence, with_open, with_replacement, with_token};
 ghost use Rattle.cweb_names.specs.surface.Names.{occurrence_of, too_many};

@@ -1,13 +1,12 @@
 // The faults of names: unresolved, prefixes of others, and names without a part.
 
 ghost use Rattle.std.specs.Prelude.{◌≡◌, ◌<◌, ◌^◌, ◌++◌, ◌&&◌, ◌||◌, not, [], List, length, map};
-ghost use Rattle.std.specs.Prelude.{IfOk, OnOk};
+ghost use Rattle.std.specs.Prelude.{IfOk, OnOk, ◌∷◌, if◌then◌else◌};
 ghost use Rattle.std.specs.List.{list_any};
 ghost use Rattle.cweb_names.specs.declared.name.NameKind.TheVariants.{PrefixOfAnother, NotPresent};
 ghost use Rattle.cweb_names.specs.Names.{is_id, is_prefix_of_another};
 ghost use Rattle.cweb_names.specs.Names as spec;
-ghost use Rattle.cweb_store.specs.inner.Faults.{fault_of_name_if};
-ghost use Rattle.cweb_store.specs.Faults.{faults_where, unresolved_faults};
+ghost use Rattle.cweb_store.specs.Faults.{fault_of_name, faults_where, unresolved_faults};
 ghost use Rattle.cweb_store.specs.Faults as fault_specs;
 ghost use Rattle.cweb_names.specs.declared.name.NameId.{NameId};
 ghost use Rattle.cweb_store.specs.inner.Links.{has_head};
@@ -131,7 +130,8 @@ fn add_fault_if(
     kind: NameKind,
 ) -> Result<(), AllocError>
     ensures { OnOk result
-        (faults.new.items ≡ faults.old.items ++ fault_of_name_if fails kind first) }
+        (faults.new.items ≡ faults.old.items
+        ++ (if fails then fault_of_name kind first ∷ [] else [])) }
 {
     if fails {
         let occurrence = NameRef(first);

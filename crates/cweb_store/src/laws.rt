@@ -1,7 +1,7 @@
 //! Laws of names and parts for any calls of a builder. Each function exists for its contract; only the first runs code.
 
 ghost use Rattle.std.specs.Prelude.{◌≡◌, ◌<◌, length, map, IfOk};
-ghost use Rattle.cweb_store.specs.laws.Calls.{contents};
+ghost use Rattle.cweb_store.specs.laws.BuilderCalls.{contents};
 ghost use Rattle.cweb_store.specs.Calls.{empty, finished};
 ghost use Rattle.cweb_names.specs.surface.Names.{too_many};
 ghost use Rattle.cweb_store.specs.laws.Laws.{AbbreviationsStay, EarlierNamesDecide};

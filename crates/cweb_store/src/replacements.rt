@@ -1,7 +1,7 @@
 // Transliterations of bytes in printed Words.
 
 ghost use Rattle.std.specs.Prelude.{◌≡◌, ◌++◌, ◌∷◌, [], map, IfOk, OnOk, OnErr};
-ghost use Rattle.cweb_store.specs.surface.Replacements.{replacement_of};
+ghost use Rattle.cweb_store.specs.surface.StoredStrings.{replacement_of};
 ghost use Rattle.cweb_store.specs.inner.Stored.{AreLast};
 ghost use Rattle.cweb_store.specs.surface.StoredStrings.{replacement_bytes};
 
@@ -26,7 +26,7 @@ pub struct Replacements {
 impl Model for Replacements {
     ghost use Rattle.std.specs.Prelude.{List, map};
     ghost use Rattle.cweb_store.specs.Calls.{Replacement};
-    ghost use Rattle.cweb_store.specs.inner.Replaced.{replacement_in};
+    ghost use Rattle.cweb_store.specs.inner.Stored.{replacement_in};
 
     ghost Value = { List Replacement };
 

@@ -1,6 +1,6 @@
 -- Links from each part to the next one of its group.
-use Rattle.std.specs.Prelude.{◌≡◌, ◌≤◌, ◌-◌, ◌+◌, ℕ, zero, suc, Bool, true, List, [], ◌∷◌}
-use Rattle.std.specs.Prelude.{length, slice_index, if◌then◌else◌, nat_lt}
+use Rattle.std.specs.Prelude.{◌≡◌, ◌≤◌, ◌-◌, ◌+◌, ℕ, zero, suc, Bool, true, List, [], ◌∷◌, length, slice_index}
+use Rattle.std.specs.Prelude.{if◌then◌else◌, nat_lt, map, filter}
 use Rattle.std.specs.List.{list_any}
 use Rattle.cweb_names.specs.declared.name.NameId.{NameId}
 use Rattle.cweb_store.specs.declared.parts.Part.{Part}
@@ -10,8 +10,16 @@ use Rattle.cweb_store.specs.declared.parts.iter.Wanted.{Wanted}
 use Rattle.cweb_store.specs.declared.parts.iter.Wanted.TheVariants.{Program, OfName, Macros}
 use Rattle.cweb_store.specs.declared.parts.links.Heads.{Heads}
 use Rattle.cweb_names.specs.Names.{Resolution}
-use Rattle.cweb_store.specs.Parts.{is_of}
-use Rattle.cweb_store.specs.inner.Wanted.{is_wanted, wanted_in}
+use Rattle.cweb_store.specs.Parts.{is_of, is_unnamed, is_macro}
+
+abbrev pub is_wanted : List Resolution → Wanted → PartKind → Bool
+is_wanted rs Program kind = is_unnamed kind
+is_wanted rs (OfName n) kind = is_of rs n kind
+is_wanted rs Macros kind = is_macro kind
+
+abbrev pub wanted_in : List Resolution → Wanted → List PartRange → List Part
+wanted_in rs wanted ranges =
+    map (λ (r : PartRange). r.part) (filter (λ (r : PartRange). is_wanted rs wanted r.kind) ranges)
 
 -- The parts that an iterator visits after it skips n parts.
 abbrev pub followed : List PartRange → List ℕ → ℕ → List Part

@@ -1,9 +1,8 @@
--- The closed parts and the open one after each call, and replacements after more calls.
-use Rattle.std.specs.Prelude.{List, [], ◌++◌, Option, Some, None, option_map, option_to_list, fold, ℕ, nat_eq}
-use Rattle.std.specs.Prelude.{if◌then◌else◌}
+-- The closed parts and the open one after each call.
+use Rattle.std.specs.Prelude.{[], ◌++◌, Some, None, option_map, option_to_list}
 use Rattle.cweb_store.specs.declared.parts.PartKind.{PartKind}
 use Rattle.cweb_store.specs.Parts.{Token, without_layout, at_close}
-use Rattle.cweb_store.specs.Calls.{PartsSoFar, Replacement, part_with_token}
+use Rattle.cweb_store.specs.Calls.{PartsSoFar, part_with_token}
 
 -- No part.
 abbrev pub no_parts : PartsSoFar
@@ -24,7 +23,3 @@ with_dropped_layout v = record v { current = option_map without_layout v.current
 -- The open part is closed.
 abbrev pub with_closed_part : PartsSoFar → PartsSoFar
 with_closed_part v = record { closed = v.closed ++ option_to_list (option_map at_close v.current); current = None }
-
--- The replacement of a byte after more calls: the last one wins.
-abbrev pub replaced_by : ℕ → Option (List ℕ) → List Replacement → Option (List ℕ)
-replaced_by byte text rs = fold (λ text r. if nat_eq r.byte byte then Some r.text else text) text rs

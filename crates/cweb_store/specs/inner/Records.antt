@@ -1,11 +1,11 @@
 -- Tokens as records with string indices, and the places of Marks beside them.
-use Rattle.std.specs.Prelude.{◌≡◌, ◌<◌, ◌≤◌, ℕ, ◌+◌, Bool, true, false, cond, List, [], ◌∷◌, ◌++◌, length, map}
+use Rattle.std.specs.Prelude.{◌≡◌, ◌<◌, ◌≤◌, ℕ, ◌+◌, List, [], ◌∷◌, ◌++◌, length, map}
 use Rattle.std.specs.Prelude.{slice_index_or, filter, bytes_eq}
 use Rattle.std.specs.List.{list_any}
 use Rattle.cweb_files.specs.declared.place.Place.{Place}
 use Rattle.cweb_store.specs.Parts as spec
 use Rattle.cweb_texts.specs.inner.StringLists.{string_at, text_bytes}
-use Rattle.cweb_store.specs.inner.TokenStrings.{has_string}
+use Rattle.cweb_store.specs.surface.TokenStrings.{has_string}
 use Rattle.cweb_store.specs.surface.TokenStrings.{with_word_of, other_bytes}
 use Rattle.cweb_texts.specs.inner.StringTables.{StringTableModel, has_word}
 use Rattle.cweb_texts.specs.surface.StringTables.{total}
@@ -53,13 +53,10 @@ abbrev pub PlaceIsWithin : ℕ → Record → Type 0
 PlaceIsWithin count (Mark n) = n < count
 PlaceIsWithin count r = Unit {0}
 
-abbrev pub has_place : Record → Bool
-has_place (Mark n) = true
-has_place r = false
-
 -- The number of places of a record: 0 or 1.
 abbrev pub places_of : Record → ℕ
-places_of r = cond (has_place r) 1 0
+places_of (Mark n) = 1
+places_of r = 0
 
 -- String indices are below n. Place indices are consecutive, from `number` up to `end`.
 abbrev pub AreRecords : ℕ → ℕ → List Record → ℕ → Type 0

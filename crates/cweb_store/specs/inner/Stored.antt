@@ -1,20 +1,32 @@
 -- The representation of a store, and its model.
-use Rattle.std.specs.Prelude.{◌≡◌, ◌<◌, ℕ, ◌+◌, ◌^◌, Bool, List, [], ◌∷◌, Option, Some, None, map, length, drop, slice_get}
-use Rattle.std.specs.Prelude.{nat_eq, if◌then◌else◌}
+use Rattle.std.specs.Prelude.{◌≡◌, ◌<◌, ℕ, ◌+◌, ◌^◌, Bool, List, [], ◌∷◌, Option, Some, None, map, length, drop}
+use Rattle.std.specs.Prelude.{slice_get, nat_eq, if◌then◌else◌}
 use Rattle.cweb_names.specs.declared.name.NameId.{NameId}
 use Rattle.cweb_names.specs.declared.name.NameFault.{NameFault}
 use Rattle.cweb_names.specs.declared.table.OccurrenceForm.{OccurrenceForm}
 use Rattle.cweb_store.specs.declared.parts.PartRange.{PartRange}
 use Rattle.cweb_store.specs.declared.parts.links.Links.{Links}
-use Rattle.cweb_names.specs.Names.{Resolution, names}
+use Rattle.cweb_names.specs.Names.{Resolution, names, Occurrence}
 use Rattle.cweb_names.specs.surface.Names.{too_many}
 use Rattle.cweb_names.specs.inner.OccurrenceTables.{occurrences_at}
 use Rattle.cweb_store.specs.Calls.{Replacement, Stored, stored}
-use Rattle.cweb_store.specs.surface.Replacements.{replacement_of}
+use Rattle.cweb_store.specs.surface.StoredStrings.{replacement_of}
 use Rattle.cweb_store.specs.inner.PartRanges.{IsWhole, closed_in}
 use Rattle.cweb_store.specs.inner.Links.{AreLinked}
-use Rattle.cweb_store.specs.Parts.{Token}
-use Rattle.cweb_store.specs.inner.Answers.{AreAnswers}
+use Rattle.cweb_store.specs.Parts.{Token, Part, has_defs_code}
+use Rattle.cweb_names.specs.Names as spec
+use Rattle.cweb_store.specs.Faults as wrong
+use Rattle.cweb_store.specs.declared.replacements.Replaced.{Replaced}
+
+abbrev pub replacement_in : Replaced → Replacement
+replacement_in r = record { byte = r.byte; text = r.text.items }
+
+pub record AreAnswers (os : List Occurrence) (ps : List Part) (resolutions : List Resolution) (files : List NameId)
+    (faults : List NameFault) (has_defs : Bool) : Type 0 where
+  pub settled : resolutions ≡ spec.resolutions os
+  pub forms : files ≡ spec.files os
+  pub found : faults ≡ wrong.faults os ps
+  pub defs : has_defs ≡ has_defs_code ps
 
 -- Replacements from their strings and bytes.
 abbrev pub replacements_at : List (List ℕ) → List ℕ → List Replacement

@@ -3,7 +3,7 @@ use Rattle.std.specs.Prelude.{◌≡◌, ◌≤◌, ℕ, Bool, List, filter, len
 use Rattle.cweb_store.specs.declared.tokens.layout.Trailing.{Trailing}
 use Rattle.cweb_store.specs.declared.tokens.layout.Trailing.TheVariants as trailing
 use Rattle.cweb_store.specs.Parts.{Token, is_layout, is_newline}
-use Rattle.cweb_store.specs.inner.TokenStrings.{has_string}
+use Rattle.cweb_store.specs.surface.TokenStrings.{has_string}
 
 abbrev pub is_trailing : Trailing → Token → Bool
 is_trailing trailing.Layout token = is_layout token

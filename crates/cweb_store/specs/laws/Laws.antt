@@ -7,7 +7,7 @@ use Rattle.cweb_names.specs.declared.name.NameId.{NameId}
 use Rattle.cweb_store.specs.declared.parts.PartKind.{PartKind}
 use Rattle.cweb_names.specs.Names.{Occurrence, names, beginning, resolutions, resolved_at}
 use Rattle.cweb_store.specs.Parts.{Part, joined_where}
-use Rattle.cweb_store.specs.laws.Calls.{Call, Occurs, contents}
+use Rattle.cweb_store.specs.laws.BuilderCalls.{Call, Occurs, contents}
 
 -- A full occurrence whose bytes begin with `text`.
 abbrev pub defines_with_prefix : List ℕ → Occurrence → Bool

@@ -3,7 +3,7 @@ use Rattle.std.specs.Prelude.{◌≡◌, ◌⊎◌, true, List, [], ◌∷◌, O
 use Rattle.cweb_store.specs.Parts.{Token, all_tokens, is_layout}
 use Rattle.cweb_store.specs.Calls.{empty}
 use Rattle.cweb_store.specs.surface.Growing.{all_parts}
-use Rattle.cweb_store.specs.laws.Calls.{Call, Pushes, contents}
+use Rattle.cweb_store.specs.laws.BuilderCalls.{Call, Pushes, contents}
 use Rattle.cweb_store.specs.laws.BuilderCalls.{AcceptsCalls}
 
 abbrev pub token_of_call : Call → Option Token

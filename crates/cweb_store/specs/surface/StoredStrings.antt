@@ -6,6 +6,9 @@ use Rattle.cweb_store.specs.Parts.{all_tokens}
 use Rattle.cweb_store.specs.surface.TokenStrings.{token_strings, token_size, interned_token_bytes}
 use Rattle.cweb_store.specs.Calls.{Replacement, Stored}
 
+abbrev pub replacement_of : ℕ → List ℕ → Replacement
+replacement_of byte text = record { byte = byte; text = text }
+
 abbrev pub replacement_bytes : Replacement → List ℕ
 replacement_bytes r = r.text
 

@@ -1,7 +1,7 @@
 // Results that need all names and parts.
 
 ghost use Rattle.std.specs.Prelude.{◌≡◌, ◌<◌, ◌^◌, length, map, IfOk, OnOk};
-ghost use Rattle.cweb_store.specs.inner.Answers.{AreAnswers};
+ghost use Rattle.cweb_store.specs.inner.Stored.{AreAnswers};
 ghost use Rattle.cweb_names.specs.surface.Names.{too_many};
 ghost use Rattle.cweb_store.specs.inner.Links.{AreLinked};
 ghost use Rattle.cweb_names.specs.Names.{names};

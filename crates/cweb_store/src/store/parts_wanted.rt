@@ -6,7 +6,7 @@ ghost use Rattle.cweb_store.specs.Parts.{all_tokens, is_macro, is_of, is_unnamed
 ghost use Rattle.cweb_store.specs.surface.Parts.{numbers_where, tokens_at};
 ghost use Rattle.cweb_store.specs.Faults.{has_part};
 ghost use Rattle.cweb_names.specs.surface.Names.{too_many};
-ghost use Rattle.cweb_store.specs.inner.Wanted.{is_wanted};
+ghost use Rattle.cweb_store.specs.inner.Links.{is_wanted};
 
 use crate::parts::iter::{Parts, Wanted};
 use crate::store::Store;

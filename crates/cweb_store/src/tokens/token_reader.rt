@@ -20,14 +20,14 @@ pub struct TokenReader<'a> {
 }
 
 impl<'a> Model for TokenReader<'a> {
-    ghost use Rattle.std.specs.Prelude.{List, Option, ℕ, length};
+    ghost use Rattle.std.specs.Prelude.{List, [], Option, ℕ, length, map};
     ghost use Rattle.cweb_texts.specs.inner.Edges.{TokenBytesModel};
-    ghost use Rattle.cweb_store.specs.inner.TokenReaders.{direct_bytes_of_records};
-    ghost use Rattle.cweb_store.specs.inner.Records.{AreRecords};
+    ghost use Rattle.cweb_store.specs.inner.DirectBytes.{direct_bytes};
+    ghost use Rattle.cweb_store.specs.inner.Records.{AreRecords, tokens_of};
 
     ghost Value = { List (Option TokenBytesModel) };
 
-    ghost view = { λ s. direct_bytes_of_records s.strings s.records.now };
+    ghost view = { λ s. map direct_bytes (tokens_of s.strings [] s.records.now) };
 
     ghost invariant = { λ s.
         (places : ℕ) × AreRecords (length s.strings) 0 s.records.now places };

@@ -1,5 +1,6 @@
-use Rattle.cweb_store.proofs.Common.{◌≡◌, ◌++◌, ◌&&◌, ◌||◌, not, List, Name, drop, list_any, map, NotPresent, is_id, flag_of, has_head, faults_where, faults_from}
+use Rattle.cweb_store.proofs.Common.{◌≡◌, ◌++◌, ◌&&◌, ◌||◌, not, List, Name, drop, list_any, map, NotPresent, is_id, flag_of, has_head, faults_where}
 use Rattle.cweb_store.proofs.faults.add_missing_faults.Given as goal
+use Rattle.cweb_store.proofs.FaultLemmas.{faults_from}
 
 abbrev pub invariant-loop-number : goal.invariant-loop-number
 invariant-loop-number l = (names : List Name) → l.firsts ≡ map (λ (n : Name). n.first) names →

@@ -1,5 +1,6 @@
-use Rattle.cweb_store.proofs.Common.{◌≡◌, ◌++◌, drop, PrefixOfAnother, faults_where, faults_from, is_prefix_of_another}
+use Rattle.cweb_store.proofs.Common.{◌≡◌, ◌++◌, drop, PrefixOfAnother, faults_where, is_prefix_of_another}
 use Rattle.cweb_store.proofs.faults.add_prefix_faults.Given as goal
+use Rattle.cweb_store.proofs.FaultLemmas.{faults_from}
 
 abbrev pub invariant-loop-number : goal.invariant-loop-number
 invariant-loop-number l = l.faults.items

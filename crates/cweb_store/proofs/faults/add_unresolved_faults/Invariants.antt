@@ -1,5 +1,6 @@
-use Rattle.cweb_store.proofs.Common.{◌≡◌, ◌++◌, drop, unresolved_faults, unresolved_faults_from}
+use Rattle.cweb_store.proofs.Common.{◌≡◌, ◌++◌, drop, unresolved_faults}
 use Rattle.cweb_store.proofs.faults.add_unresolved_faults.Given as goal
+use Rattle.cweb_store.proofs.FaultLemmas.{unresolved_faults_from}
 
 abbrev pub invariant-loop-i : goal.invariant-loop-i
 invariant-loop-i l = l.faults.items

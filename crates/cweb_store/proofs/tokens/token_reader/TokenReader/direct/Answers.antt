@@ -1,5 +1,4 @@
-use Rattle.cweb_store.proofs.Common.{◌<◌, ap, arith, length, length-map, slice_get-map, slice_get-get_or}
-use Rattle.cweb_store.specs.inner.TokenReaders.{direct_bytes_of_record}
+use Rattle.cweb_store.proofs.Common.{◌<◌, arith, length, length-map, slice_get-map, slice_get-get_or}
 use Rattle.cweb_store.proofs.RecordLemmas.{record-at}
 use Rattle.cweb_store.proofs.tokens.token_reader.TokenReader.direct.Goals as goal
 
@@ -7,7 +6,7 @@ pub direct-requires : goal.direct-requires
 direct-requires c =
     let s = c.self.inside in
     let within : c.args.number < length s.records.now =
-    omega (arith, c.requires, ap length c.self.view_is, length-map s.records.now (direct_bytes_of_record s.strings)) in
+    grind (arith, length-map) in
     (record-at (length s.strings) 0 c.self.invariant.0 s.records.now c.args.number _ c.self.invariant.1
     (slice_get-get_or s.records.now c.args.number _ within)).0
 
