@@ -3,7 +3,8 @@ use Rattle.cweb_store.proofs.Common.{◌≡◌, ◌≤◌, ◌<◌, ◌+◌, ◌
 use Rattle.std.proofs.Common.{drop-cons, drop_of_length-le}
 use Rattle.std.specs.List.{prefix_len}
 use Rattle.std.specs.List.Sorted.{IsNonDecreasing}
-use Rattle.cweb_store.specs.inner.Next.{HasPassingToken}
+use Rattle.std.specs.Prelude.{option_map, slice_get, Some}
+use Rattle.cweb_texts.proofs.ListLemmas.{get-drop}
 use Rattle.cweb_store.specs.declared.parts.Part.{Part}
 use Rattle.cweb_store.proofs.TokenIndexLemmas.{index-cut}
 
@@ -20,32 +21,15 @@ none-before test n (suc k) [] from = refl
 none-before test n (suc k) (t ∷ ts) from = grind (arith, none-before test (n + 1) k ts)
 
 -- The token at the first number passes.
-first-passes : (test : Token → Bool) (n m : ℕ) (ts : List Token) (xs : List ℕ)
-    → token_numbers test n ts ≡ m ∷ xs → (n ≤ m) × HasPassingToken test ts (m - n)
-first-passes test n m [] xs is = cc
-first-passes test n m (t ∷ ts) xs is =
-    let rest = token_numbers test (n + 1) ts in
-    (elim (test t) as (λ b.
-    test t ≡ b → (if b then n ∷ rest else rest) ≡ m ∷ xs → (n ≤ m) × HasPassingToken test (t ∷ ts) (m - n)) [
-      | true ↦ λ passes e.
-          let same : n ≡ m = cc in
-          let zeroth : 0 ≡ m - n = omega (arith, same) in
-          let first : HasPassingToken test (t ∷ ts) 0 = record { token = t; here = refl; passes = passes } in
-          (omega (arith, same), subst (HasPassingToken test (t ∷ ts)) zeroth first)
-      | false ↦ λ fails e.
-          let later = first-passes test (n + 1) m ts xs e in
-          let next : suc (m - (n + 1)) ≡ m - n = omega (arith, later.0) in (
-            omega (arith, later.0),
-            subst (HasPassingToken test (t ∷ ts)) next
-                (record { token = later.1.token; here = later.1.here; passes = later.1.passes }),
-          )
-    ]) refl is
+first-low : (test : Token → Bool) (n m : ℕ) (ts : List Token) (xs : List ℕ) → token_numbers test n ts ≡ m ∷ xs → n ≤ m
+first-low test n m [] xs is = cc
+first-low test n m (t ∷ ts) xs is = grind (arith, test t, first-low test (n + 1) m ts xs)
 
-passes-after : (test : Token → Bool) (ts : List Token) (n k : ℕ) → HasPassingToken test (drop n ts) k
-    → HasPassingToken test ts (n + k)
-passes-after test ts zero k p = subst (HasPassingToken test ts) (let e : k ≡ 0 + k = omega arith in e) p
-passes-after test [] (suc n) k p = absurd (let none : ⊥ = cc in none)
-passes-after test (t ∷ ts) (suc n) k p = grind (arith, passes-after test ts n k p, suc (n + k), suc n)
+first-passes : (test : Token → Bool) (n m k : ℕ) (ts : List Token) (xs : List ℕ)
+    → token_numbers test n ts ≡ m ∷ xs → m ≡ n + k → option_map test (slice_get ts k) ≡ Some true
+first-passes test n m k [] xs is at = cc
+first-passes test n m zero (t ∷ ts) xs is at = grind (arith, test t, first-low test (n + 1) m ts xs)
+first-passes test n m (suc k) (t ∷ ts) xs is at = grind (arith, test t, first-passes test (n + 1) m k ts xs)
 
 head-at : (xs : List ℕ) (i m : ℕ) → i < length xs → m ≡ get_or xs i m → drop i xs ≡ m ∷ drop (suc i) xs
 head-at xs i m less is = drop-cons xs i m less ∙ ap (λ x. x ∷ drop (suc i) xs) (sym is)
@@ -57,14 +41,13 @@ next-is test ts part xs i m are count some here less =
     let n = part.first in
     let head : token_numbers test n (drop n ts) ≡ m ∷ drop (suc i) xs =
     sym ((index-cut test xs ts n i are count).1) ∙ head-at xs i m some here in
-    let first = first-passes test n m (drop n ts) (drop (suc i) xs) head in
-    let place : n + (m - n) ≡ m = omega (arith, first.0) in
+    let low = first-low test n m (drop n ts) (drop (suc i) xs) head in
+    let place : m ≡ n + (m - n) = omega (arith, low) in
     record {
-      begins = first.0;
+      begins = low;
       within = omega (arith, less);
-      before = none-before test n (m - n) (drop n ts)
-          (subst (BeginsFrom (n + (m - n))) (sym head) (omega (arith, first.0)));
-      found = λ l. subst (HasPassingToken test ts) place (passes-after test ts n (m - n) first.1);
+      before = none-before test n (m - n) (drop n ts) (subst (BeginsFrom (n + (m - n))) (sym head) (omega (arith, low)));
+      found = λ l. rw (place, ← get-drop ts n (m - n)) (first-passes test n m (m - n) (drop n ts) _ head place);
     }
 
 none-found : (test : Token → Bool) (ts : List Token) (part : Part) → part.first ≤ part.after

@@ -1,5 +1,6 @@
 -- The next token of a kind.
 use Rattle.std.specs.Prelude.{◌≡◌, ◌≤◌, ◌<◌, ℕ, Bool, true, false, List, Some, slice_get, slice_range}
+use Rattle.std.specs.Prelude.{option_map}
 use Rattle.std.specs.List.{list_any}
 use Rattle.cweb_store.specs.declared.parts.Part.{Part}
 use Rattle.cweb_store.specs.Parts.{Token, Name}
@@ -8,15 +9,9 @@ abbrev pub is_name_use : Token → Bool
 is_name_use (Name name) = true
 is_name_use token = false
 
--- The token at an index passes a test.
-pub record HasPassingToken (test : Token → Bool) (tokens : List Token) (number : ℕ) : Type 0 where
-  pub token : Token
-  pub here : slice_get tokens number ≡ Some token
-  pub passes : test token ≡ true
-
 -- The index of the first passing token of a part, or the end of the part if there is none.
 pub record IsNextNumber (test : Token → Bool) (tokens : List Token) (part : Part) (next : ℕ) : Type 0 where
   pub begins : part.first ≤ next
   pub within : next ≤ part.after
   pub before : list_any test (slice_range tokens part.first next) ≡ false
-  pub found : next < part.after → HasPassingToken test tokens next
+  pub found : next < part.after → option_map test (slice_get tokens next) ≡ Some true
