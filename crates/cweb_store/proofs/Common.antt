@@ -65,7 +65,7 @@ pub use Rattle.cweb_store.specs.declared.tokens.records.Record.{Record}
 pub use Rattle.cweb_store.specs.inner.Stored.{AreAnswers}
 pub use Rattle.cweb_store.specs.laws.BuilderCalls.{HoldsAtMost}
 pub use Rattle.cweb_store.specs.inner.DirectBytes.{direct_bytes}
-pub use Rattle.cweb_store.specs.inner.NameUses.{AreWithin, flag_of}
+pub use Rattle.cweb_store.specs.inner.Links.{AreWithin, flag_of}
 pub use Rattle.cweb_store.specs.inner.Links.{has_head}
 pub use Rattle.cweb_store.specs.inner.Links.{followed, AreLinked}
 pub use Rattle.cweb_store.specs.inner.Next.{IsNextNumber, is_name_use}
@@ -73,20 +73,19 @@ pub use Rattle.cweb_store.specs.inner.PartRanges.{ranges_from, IsWhole, closed_i
 pub use Rattle.cweb_store.specs.inner.Records.{AreRecords, InternsToken, StringIsWithin, token_of_record, tokens_of}
 pub use Rattle.cweb_store.specs.inner.Stored.{replacement_in}
 pub use Rattle.cweb_store.specs.inner.Stored.{replacements_at, stored_in, AreLast, AreStored, last_from}
-pub use Rattle.cweb_store.specs.inner.TokenIndexes.{token_numbers, IsTokenIndex}
+pub use Rattle.cweb_store.specs.inner.Next.{token_numbers, IsTokenIndex}
 pub use Rattle.cweb_store.specs.surface.TokenStrings.{has_string}
 pub use Rattle.cweb_store.specs.inner.Trailing.{is_trailing}
 pub use Rattle.cweb_store.specs.inner.Links.{is_wanted, wanted_in}
 pub use Rattle.cweb_store.specs.laws.BuilderCalls.{call_model, accepted_calls, AcceptsCall, AcceptsCalls}
 pub use Rattle.cweb_store.specs.laws.BuilderCalls.{Call, Occurs, Opens, Pushes, Drops, Closes, Transliterates, after_call}
 pub use Rattle.cweb_store.specs.laws.BuilderCalls.{contents}
-pub use Rattle.cweb_store.specs.laws.Laws.{defines_with_prefix, AbbreviationsStay, EarlierNamesDecide}
-pub use Rattle.cweb_store.specs.laws.Laws.{FullNamesResolveToThemselves, JoiningConcatenates}
-pub use Rattle.cweb_store.specs.laws.Laws.{OccurrencesAreThoseOfCalls, occurrence_of_call}
-pub use Rattle.cweb_store.specs.laws.MoreLaws.{IsLeft, OnlyLayoutIsDropped}
-pub use Rattle.cweb_store.specs.laws.MoreLaws.{NamesAreDistinct, AbbreviationsBeginTheirNames, OneFaultForNoName}
-pub use Rattle.cweb_store.specs.laws.MoreLaws.{left_of_macro}
-pub use Rattle.cweb_store.specs.laws.TokenLaws.{token_of_call, IsLeftOfTokens, TokensAreThosePushed}
+pub use Rattle.cweb_store.specs.laws.NameLaws.{defines_with_prefix, AbbreviationsStay, EarlierNamesDecide}
+pub use Rattle.cweb_store.specs.laws.NameLaws.{FullNamesResolveToThemselves, OccurrencesAreThoseOfCalls}
+pub use Rattle.cweb_store.specs.laws.NameLaws.{occurrence_of_call, NamesAreDistinct, AbbreviationsBeginTheirNames}
+pub use Rattle.cweb_store.specs.laws.NameLaws.{OneFaultForNoName}
+pub use Rattle.cweb_store.specs.laws.PartLaws.{JoiningConcatenates, IsLeft, OnlyLayoutIsDropped, left_of_macro}
+pub use Rattle.cweb_store.specs.laws.PartLaws.{token_of_call, IsLeftOfTokens, TokensAreThosePushed}
 pub use Rattle.cweb_store.specs.surface.Growing.{part_count, token_count}
 pub use Rattle.cweb_store.specs.surface.Parts.{numbers_where, tokens_at}
 pub use Rattle.cweb_store.specs.surface.StoredStrings.{replacement_of}

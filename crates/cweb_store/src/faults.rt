@@ -10,7 +10,7 @@ ghost use Rattle.cweb_store.specs.Faults.{fault_of_name, faults_where, unresolve
 ghost use Rattle.cweb_store.specs.Faults as fault_specs;
 ghost use Rattle.cweb_names.specs.declared.name.NameId.{NameId};
 ghost use Rattle.cweb_store.specs.inner.Links.{has_head};
-ghost use Rattle.cweb_store.specs.inner.NameUses.{AreWithin, flag_of};
+ghost use Rattle.cweb_store.specs.inner.Links.{AreWithin, flag_of};
 
 use crate::parts::closed::ClosedParts;
 use crate::parts::iter::Wanted;

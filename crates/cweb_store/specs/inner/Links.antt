@@ -1,6 +1,6 @@
 -- Links from each part to the next one of its group.
 use Rattle.std.specs.Prelude.{◌≡◌, ◌≤◌, ◌-◌, ◌+◌, ℕ, zero, suc, Bool, true, List, [], ◌∷◌, length, slice_index}
-use Rattle.std.specs.Prelude.{if◌then◌else◌, nat_lt, map, filter}
+use Rattle.std.specs.Prelude.{if◌then◌else◌, nat_lt, map, filter, ◌<◌, false, ◌||◌, get_or, IfSome}
 use Rattle.std.specs.List.{list_any}
 use Rattle.cweb_names.specs.declared.name.NameId.{NameId}
 use Rattle.cweb_store.specs.declared.parts.Part.{Part}
@@ -9,7 +9,7 @@ use Rattle.cweb_store.specs.declared.parts.PartRange.{PartRange}
 use Rattle.cweb_store.specs.declared.parts.iter.Wanted.{Wanted}
 use Rattle.cweb_store.specs.declared.parts.iter.Wanted.TheVariants.{Program, OfName, Macros}
 use Rattle.cweb_store.specs.declared.parts.links.Heads.{Heads}
-use Rattle.cweb_names.specs.Names.{Resolution}
+use Rattle.cweb_names.specs.Names.{Resolution, resolved_at}
 use Rattle.cweb_store.specs.Parts.{is_of, is_unnamed, is_macro}
 
 abbrev pub is_wanted : List Resolution → Wanted → PartKind → Bool
@@ -50,3 +50,15 @@ pub record AreLinked (rs : List Resolution) (ranges : List PartRange) (skips : L
   pub within : (w : Wanted) → head_of heads w ≤ length ranges
   pub follow : (w : Wanted) → followed ranges skips (length ranges - head_of heads w) ≡ wanted_in rs w ranges
   pub some : (n : NameId) → has_head heads n ≡ list_any (λ (r : PartRange). is_of rs n r.kind) ranges
+
+-- All resolved names are among the first n.
+abbrev pub AreWithin : List Resolution → ℕ → Type 0
+AreWithin rs n = (i : ℕ) → IfSome (resolved_at rs i) (λ id. id.0 < n)
+
+abbrev pub flag_of : List Bool → NameId → Bool
+flag_of flags n = get_or flags n.0 false
+
+-- The flags of the names that pass a test are set. The others are unchanged.
+pub record FlagsToo (test : NameId → Bool) (old new : List Bool) : Type 0 where
+  pub flags : (n : NameId) → flag_of new n ≡ (flag_of old n || test n)
+  pub size : length new ≡ length old

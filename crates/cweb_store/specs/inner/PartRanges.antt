@@ -1,11 +1,35 @@
 -- Parts as ranges of one list of tokens.
-use Rattle.std.specs.Prelude.{◌≡◌, ℕ, ◌+◌, ◌≤◌, ◌<◌, List, [], ◌∷◌, Option, Some, None, map, length, drop, slice_range}
-use Rattle.std.specs.Prelude.{option_map, option_to_list, IsSome}
+use Rattle.std.specs.Prelude.{◌≡◌, ℕ, ◌+◌, ◌≤◌, ◌<◌, List, [], ◌∷◌, Option, Some, None, map, length, drop}
+use Rattle.std.specs.Prelude.{slice_range, option_map, option_to_list, IsSome}
 use Rattle.cweb_store.specs.declared.parts.PartRange.{PartRange}
 use Rattle.cweb_store.specs.declared.parts.Open.{Open}
 use Rattle.cweb_store.specs.Parts.{Token, Part}
 use Rattle.cweb_store.specs.Calls.{PartsSoFar}
 use Rattle.cweb_names.specs.surface.Names.{too_many}
+
+-- The room for tokens, and for the places of Marks, uses and Defs among them.
+pub record TokenRooms : Type 0 where
+  pub for_records : ℕ
+  pub for_places : ℕ
+  pub for_uses : ℕ
+  pub for_defs : ℕ
+
+pub record TokenListModel : Type 0 where
+  pub tokens : List Token
+  pub rooms : TokenRooms
+
+-- The room for tokens and for closed parts.
+pub record Rooms : Type 0 where
+  pub for_tokens : TokenRooms
+  pub for_parts : ℕ
+
+-- The parts so far, and the room for more.
+pub record PartListModel : Type 0 where
+  pub parts : PartsSoFar
+  pub rooms : Rooms
+
+abbrev pub in_rooms : PartsSoFar → TokenRooms → ℕ → PartListModel
+in_rooms v tokens parts = record { parts = v; rooms = record { for_tokens = tokens; for_parts = parts } }
 
 abbrev pub closed_in : List Token → PartRange → Part
 closed_in ts r = record { kind = r.kind; tokens = slice_range ts r.part.first r.part.after }

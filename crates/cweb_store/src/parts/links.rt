@@ -3,7 +3,7 @@
 ghost use Rattle.std.specs.Prelude.{◌≡◌, ◌<◌, ◌≤◌, [], length, IfOk};
 ghost use Rattle.cweb_names.specs.surface.Names.{too_many};
 ghost use Rattle.cweb_store.specs.inner.Links.{AreLinked, IsPut, head_of};
-ghost use Rattle.cweb_store.specs.inner.NameUses.{AreWithin};
+ghost use Rattle.cweb_store.specs.inner.Links.{AreWithin};
 
 use crate::parts::iter::Wanted;
 use crate::parts::{PartKind, PartRange};

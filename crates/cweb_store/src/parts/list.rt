@@ -30,7 +30,7 @@ pub struct PartList {
 
 impl Model for PartList {
     ghost use Rattle.std.specs.Prelude.{vec_capacity};
-    ghost use Rattle.cweb_store.specs.inner.Rooms.{PartListModel, in_rooms};
+    ghost use Rattle.cweb_store.specs.inner.PartRanges.{PartListModel, in_rooms};
 
     ghost Value = { PartListModel };
 

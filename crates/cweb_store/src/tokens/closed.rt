@@ -5,7 +5,7 @@ ghost use Rattle.std.specs.Prelude.{Some};
 ghost use Rattle.std.specs.List.{list_any};
 ghost use Rattle.cweb_store.specs.Parts.{is_defs};
 ghost use Rattle.cweb_store.specs.Faults.{is_use};
-ghost use Rattle.cweb_store.specs.inner.NameUses.{AreWithin, FlagsToo};
+ghost use Rattle.cweb_store.specs.inner.Links.{AreWithin, FlagsToo};
 ghost use Rattle.cweb_store.specs.surface.TokenModels.{token_model};
 ghost use Rattle.cweb_store.specs.surface.TokenStrings.{AreInOneList, interned_token_bytes, token_strings};
 ghost use Rattle.cweb_store.specs.inner.Next.{IsNextNumber, is_name_use};

@@ -25,7 +25,7 @@ pub struct TokenList {
 
 impl Model for TokenList {
     ghost use Rattle.std.specs.Prelude.{vec_capacity};
-    ghost use Rattle.cweb_store.specs.inner.Rooms.{TokenListModel};
+    ghost use Rattle.cweb_store.specs.inner.PartRanges.{TokenListModel};
 
     ghost Value = { TokenListModel };
 

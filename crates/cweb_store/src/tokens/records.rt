@@ -4,7 +4,7 @@ ghost use Rattle.std.specs.Prelude.{◌≡◌, ◌<◌, ◌+◌, ℕ, length, So
 ghost use Rattle.cweb_names.specs.surface.Names.{too_many};
 ghost use Rattle.cweb_store.specs.inner.Records.{AreRecords, AddsPlace, InternsToken};
 ghost use Rattle.cweb_store.specs.inner.Records.{StringIsWithin, PlaceIsWithin, token_of_record, tokens_of};
-ghost use Rattle.cweb_store.specs.inner.TokenIndexes.{AddsNumber, HasSameEntries};
+ghost use Rattle.cweb_store.specs.inner.Next.{AddsNumber, HasSameEntries};
 ghost use Rattle.cweb_store.specs.surface.TokenModels.{token_model};
 
 use crate::tokens::Token;

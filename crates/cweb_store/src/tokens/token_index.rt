@@ -5,7 +5,7 @@ ghost use Rattle.std.specs.List.{prefix_len};
 ghost use Rattle.std.specs.List.Sorted.{IsNonDecreasing};
 ghost use Rattle.cweb_store.specs.Parts as spec;
 ghost use Rattle.cweb_store.specs.inner.Next.{IsNextNumber};
-ghost use Rattle.cweb_store.specs.inner.TokenIndexes.{IsTokenIndex, token_numbers};
+ghost use Rattle.cweb_store.specs.inner.Next.{IsTokenIndex, token_numbers};
 
 use crate::parts::Part;
 use std::alloc::Global;

@@ -1,5 +1,5 @@
 use Rattle.cweb_store.proofs.Common.{◌≡◌, ◌<◌, ◌+◌, length, sym, ◌∙◌, ap, subst, arith, too_many, IsSome, token_count, token_model}
-use Rattle.cweb_store.specs.inner.Rooms.{PartListModel}
+use Rattle.cweb_store.specs.inner.PartRanges.{PartListModel}
 use Rattle.cweb_store.proofs.PartRangeLemmas.{push-parts, push-are, tokens-whole}
 use Rattle.cweb_store.proofs.parts.list.PartList.push.Goals as goal
 

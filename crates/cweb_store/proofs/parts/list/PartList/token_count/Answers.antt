@@ -1,5 +1,5 @@
 use Rattle.cweb_store.proofs.Common.{◌≡◌, sym, ◌∙◌, ap, length, arith, token_count}
-use Rattle.cweb_store.specs.inner.Rooms.{PartListModel}
+use Rattle.cweb_store.specs.inner.PartRanges.{PartListModel}
 use Rattle.cweb_store.proofs.PartRangeLemmas.{tokens-whole}
 use Rattle.cweb_store.proofs.parts.list.PartList.token_count.Goals as goal
 

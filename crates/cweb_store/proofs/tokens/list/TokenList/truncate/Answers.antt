@@ -1,6 +1,6 @@
 use Rattle.cweb_store.proofs.Common.{◌≡◌, length, take, drop, sym, subst, ◌∙◌, ap, filter, has_string, tokens_of, IsTokenIndex}
 use Rattle.std.proofs.lemmas.List.{take_rest}
-use Rattle.cweb_store.specs.inner.Rooms.{TokenListModel}
+use Rattle.cweb_store.specs.inner.PartRanges.{TokenListModel}
 use Rattle.cweb_store.proofs.RecordLemmas.{cut-is}
 use Rattle.cweb_store.proofs.TokenStringLemmas.{truncate-are, truncate-tokens}
 use Rattle.cweb_store.proofs.tokens.list.TokenList.truncate.Goals as goal
