@@ -39,25 +39,25 @@ pub use Rattle.cweb_store.specs.declared.parts.Part.{Part}
 pub use Rattle.cweb_store.specs.surface.TokenModels.{token_model}
 pub use Rattle.cweb_texts.specs.Edges.{last_is}
 pub use Rattle.cweb_out.specs.Expansion.{expand, expanded_name, put, cycle_from, walk, ends_below, has_rank}
-pub use Rattle.cweb_out.specs.inner.TokensFor.{tokens_for}
+pub use Rattle.std.specs.Option.{option_map_or}
 pub use Rattle.cweb_out.specs.Expansion.{first_endless, list_ends, joined, uses, names, program, resolved_use, use_of}
 pub use Rattle.cweb_out.specs.Outputs.{Planned, Refusal, bad_name, same_name, cycle, file_outputs}
-pub use Rattle.cweb_out.specs.surface.RootTokens.{defs_first}
+pub use Rattle.cweb_out.specs.surface.FrameSuffixes.{defs_first}
 pub use Rattle.cweb_out.specs.Outputs.{has_no_program, is_good_name, name_spelling, output_name, output_of, outputs}
 pub use Rattle.cweb_out.specs.Outputs.{planned, planned_apart, planned_ending, root_list, start_of, Output, is_slash}
 pub use Rattle.cweb_out.specs.declared.frame.Frame.{Frame}
 pub use Rattle.cweb_out.specs.declared.outputs.search.Waiting.{Waiting}
 pub use Rattle.cweb_out.specs.inner.FrameStacks.{RanksAreBelow, level, work_of, list_work, name_work, token_work, UsesLower, top_rank}
 pub use Rattle.cweb_out.specs.inner.FrameStacks.{Advances, Enters, work_for}
-pub use Rattle.cweb_out.specs.inner.Outputs.{IsRoot}
+pub use Rattle.cweb_out.specs.inner.Planning.{IsRoot}
 pub use Rattle.cweb_out.specs.inner.Planning.{is_bad, is_endless}
 pub use Rattle.cweb_out.specs.inner.Search.{AreNew, path_of, PathBegins, IsEndless, Chain, MarksFitPath, marks_left}
 pub use Rattle.cweb_out.specs.inner.Search.{FindsUnranked, IsScanned, is_marked}
-pub use Rattle.cweb_out.specs.inner.Uses.{PassesNoUse}
+pub use Rattle.cweb_out.specs.inner.Frames.{PassesNoUse}
 pub use Rattle.cweb_out.specs.laws.Laws.{EachUsesNext, IsCycle, ReplacesUses, is_no_use, is_joined, print_following}
 pub use Rattle.cweb_out.specs.laws.Laws.{is_whole_lines}
 pub use Rattle.cweb_out.specs.surface.FrameStacks.{left, IsFrameStack, rank, AreOwned, IsOwned}
 pub use Rattle.cweb_out.specs.surface.FrameStacks.{left_at_depth}
 pub use Rattle.cweb_out.specs.surface.FrameSuffixes.{suffix, FrameIsWithin, PartIsWithin}
 pub use Rattle.cweb_out.specs.surface.Outputs.{root_at, IsPlanOf}
-pub use Rattle.cweb_out.specs.surface.Ranks.{least, name_rank}
+pub use Rattle.cweb_out.specs.surface.FrameStacks.{least, name_rank}

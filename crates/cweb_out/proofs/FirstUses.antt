@@ -1,5 +1,5 @@
 -- The first use in a list and in a frame's suffix.
-use Rattle.cweb_out.proofs.Common.{◌≡◌, ◌<◌, ◌||◌, true, false, List, [], ◌∷◌, ◌++◌, length, refl, sym, ◌∙◌, ap, arith, append_assoc, length-append, list_any, list_any-append, flat_map-append, Part, Token, Stored, uses, use_of, defs_first, suffix, tokens_of_parts, Frame, PassesNoUse}
+use Rattle.cweb_out.proofs.Common.{◌≡◌, ◌<◌, ◌||◌, true, false, List, [], ◌∷◌, ◌++◌, length, refl, sym, ◌∙◌, ap, arith, append_assoc, length-append, list_any, list_any-append, flat_map-append, Part, Token, Stored, uses, use_of, suffix, Frame, PassesNoUse}
 use Rattle.cweb_store.specs.inner.Next.{is_name_use}
 use Rattle.cweb_print.specs.surface.TokenRanges.{tokens_of_part}
 use Rattle.cweb_store.specs.Parts as spec

@@ -1,12 +1,12 @@
 -- The laws of expansion and printing.
-use Rattle.cweb_out.proofs.Common.{◌≡◌, ◌≤◌, ◌+◌, ◌-◌, ◌==◌, ℕ, zero, suc, Bool, true, false, cond, List, [], ◌∷◌, ◌++◌, refl, sym, ◌∙◌, ap, arith, append_assoc, append-nil, Option, None, Some, codes, fold, flat_map, option_to_list, list_all, flat_map-append, NameId, Token, Newline, Defs, Name, Stored, joined, resolved_use, uses, use_of, ends_below, expand, expanded_name, put, tokens_for, last_is, sep, Setting, file, file_token_bytes, without_joined_layout, last_token, left_after, macro_line, macro_lines, mark_line, print, print_after, starts_line, stays_joined, Class, separator, ReplacesUses, is_no_use, print_following, is_whole_lines, and_parts}
+use Rattle.cweb_out.proofs.Common.{◌≡◌, ◌≤◌, ◌+◌, ◌-◌, ◌==◌, ℕ, zero, suc, Bool, true, false, cond, List, [], ◌∷◌, ◌++◌, refl, sym, ◌∙◌, ap, arith, append_assoc, append-nil, Option, None, Some, codes, fold, flat_map, option_to_list, list_all, flat_map-append, NameId, Token, Newline, Defs, Name, Stored, joined, resolved_use, uses, use_of, ends_below, expand, expanded_name, put, option_map_or, last_is, sep, Setting, file, file_token_bytes, without_joined_layout, last_token, left_after, macro_line, macro_lines, mark_line, print, print_after, starts_line, stays_joined, Class, separator, ReplacesUses, is_no_use, print_following, is_whole_lines, and_parts}
 use Rattle.cweb_store.specs.Parts.{Mark}
 use Rattle.cweb_print.specs.declared.printer.class.Class.TheVariants as class
 use Rattle.cweb_out.proofs.Ranks.{all-append, all-parts, rank-grows, uses-weaker}
 use Rattle.cweb_print.proofs.Steps.{sep_by_class}
 
 text_for-text : (f : NameId → List Token) (o : Option NameId)
-    → ((n : NameId) → list_all is_no_use (f n) ≡ true) → list_all is_no_use (tokens_for f o) ≡ true
+    → ((n : NameId) → list_all is_no_use (f n) ≡ true) → list_all is_no_use (option_map_or f o []) ≡ true
 text_for-text f None h = refl
 text_for-text f (Some n) h = h n
 
@@ -36,7 +36,7 @@ replaces_uses {w} {k} = record {
   replaced = λ before after r n e. flat_map-append (put w (expanded_name w (suc k))) before (Name r ∷ after)
       ∙ ap
       (λ (o : Option NameId). expand w (suc k) before
-      ++ (tokens_for (expanded_name w (suc k)) o ++ expand w (suc k) after))
+      ++ (option_map_or (expanded_name w (suc k)) o [] ++ expand w (suc k) after))
       e;
 }
 
@@ -45,7 +45,7 @@ abbrev AreSame : (NameId → Bool) → (NameId → List Token) → (NameId → L
 AreSame p f g = (n : NameId) → p n ≡ true → f n ≡ g n
 
 text_for-same : (p : NameId → Bool) (f g : NameId → List Token) → AreSame p f g
-    → (o : Option NameId) → list_all p (option_to_list o) ≡ true → tokens_for f o ≡ tokens_for g o
+    → (o : Option NameId) → list_all p (option_to_list o) ≡ true → option_map_or f o [] ≡ option_map_or g o []
 text_for-same p f g same None h = refl
 text_for-same p f g same (Some n) h = same n (and_parts (p n) true h).0
 

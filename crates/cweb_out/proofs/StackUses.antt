@@ -1,5 +1,5 @@
 -- The model of a stack after a use of a name, and after one that expands to nothing.
-use Rattle.cweb_out.proofs.Common.{◌≡◌, ◌+◌, ◌-◌, ℕ, suc, [], ◌∷◌, ◌++◌, List, length, refl, sym, ◌∙◌, ap, arith, Some, false, All, NameId, NameRef, Part, Name, all_tokens, Stored, names, uses, resolved_use, joined, expand, expanded_name, put, tokens_for, root_list, Frame, suffix, tokens_of_parts, work_of, list_work, RanksAreBelow, PartIsWithin, FrameIsWithin, IsFrameStack, UsesLower, Enters, left, level, name_work, token_work, work_for}
+use Rattle.cweb_out.proofs.Common.{◌≡◌, ◌+◌, ◌-◌, ℕ, suc, [], ◌∷◌, ◌++◌, List, length, refl, sym, ◌∙◌, ap, arith, Some, false, All, NameId, NameRef, Part, Name, all_tokens, Stored, names, uses, resolved_use, joined, expand, expanded_name, put, option_map_or, root_list, Frame, suffix, tokens_of_parts, work_of, list_work, RanksAreBelow, PartIsWithin, FrameIsWithin, IsFrameStack, UsesLower, Enters, left, level, name_work, token_work, work_for}
 use Rattle.cweb_out.proofs.Owners.{OnTop-entered, OnTop-first, room-above}
 use Rattle.cweb_out.proofs.Stack.{left_of-push, work_of-push, Valid-push}
 
@@ -20,7 +20,7 @@ entered {w} {fs} {new} {r} m q rest s grows lower e text a is =
     let deeper : level w fs ≡ suc k = omega (arith, room-above w fs r m s.owned lower e) in
     let within : FrameIsWithin w g = record { part = a 0 q (omega arith); rest = λ i x l. a (suc i) x (omega arith) } in
     let one : put w (expanded_name w (level w fs)) (Name r) ≡ expand w k (joined w m) =
-    ap (tokens_for (expanded_name w (level w fs))) e ∙ ap (λ n. expanded_name w n m) deeper in
+    ap (λ o. option_map_or (expanded_name w (level w fs)) o []) e ∙ ap (λ n. expanded_name w n m) deeper in
     let two : token_work w (name_work w (level w fs)) (Name r) ≡ 1 + list_work w k (joined w m) =
     ap (λ o. 1 + work_for (name_work w (level w fs)) o) e ∙ ap (λ n. 1 + name_work w n m) deeper in
     let three : work_of w (names w) new ≡ list_work w k (suffix w g) + work_of w (names w) fs =

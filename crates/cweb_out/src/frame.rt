@@ -8,7 +8,7 @@ ghost use Rattle.cweb_out.specs.surface.FrameSuffixes.{PartIsWithin, FrameIsWith
 ghost use Rattle.cweb_out.specs.inner.Frames.{KeepsFrame};
 ghost use Rattle.cweb_print.specs.surface.TokenRanges.{tokens_of_part};
 ghost use Rattle.cweb_out.specs.Outputs.{root_list};
-ghost use Rattle.cweb_out.specs.inner.Uses.{PassesNoUse};
+ghost use Rattle.cweb_out.specs.inner.Frames.{PassesNoUse};
 
 pub mod appending;
 

@@ -64,15 +64,15 @@ pub use Rattle.cweb_log.specs.inner.WebItems.{plan_item}
 pub use Rattle.cweb_log.specs.surface.Options.{options_of}
 pub use Rattle.cweb_names.specs.declared.name.NameId.{NameId}
 pub use Rattle.cweb_out.specs.Expansion.{expand, expanded_name, put, joined, names, program, resolved_use}
-pub use Rattle.cweb_out.specs.inner.TokensFor.{tokens_for}
+pub use Rattle.std.specs.Option.{option_map_or}
 pub use Rattle.cweb_out.specs.Outputs.{root_list, Planned, Refusal, bad_name, same_name, cycle, Output}
-pub use Rattle.cweb_out.specs.surface.RootTokens.{defs_first}
+pub use Rattle.cweb_out.specs.surface.FrameSuffixes.{defs_first}
 pub use Rattle.cweb_out.specs.declared.expander.Expander.{Expander}
 pub use Rattle.cweb_out.specs.declared.outputs.fault.PlanFault.{PlanFault}
 pub use Rattle.cweb_out.specs.declared.outputs.fault.PlanFault.TheVariants.{Cycle, SameName, BadName}
 pub use Rattle.cweb_out.specs.surface.FrameStacks.{left}
 pub use Rattle.cweb_out.specs.surface.Outputs.{output_name_at, output_at, root_at}
-pub use Rattle.cweb_out.specs.surface.Planning.{IsExpectedFault}
+pub use Rattle.cweb_out.specs.surface.Outputs.{IsExpectedFault}
 pub use Rattle.cweb_print.specs.Printing.{setting, Setting, file, print, print_after, file_token_bytes, word_bytes}
 pub use Rattle.cweb_print.specs.Printing.{without_joined_layout}
 pub use Rattle.cweb_print.specs.Spacing.{sep, are_apart}

@@ -1,5 +1,5 @@
 -- The line marks of an expansion are among those of the parts.
-use Rattle.cweb_tools.proofs.Common.{ℕ, zero, suc, Bool, true, false, cond, not, List, [], ◌∷◌, ◌++◌, length, All-nil, All-cons, All-head, All-tail, All-append, All, Option, None, Some, Stored, Token, Mark, Name, Defs, Part, all_tokens, is_of, is_unnamed, NameId, PartKind, IsMarkBelow, expand, expanded_name, put, tokens_for, defs_first, root_list, MarkFileIsNamed, Setting, joined, names, program, resolved_use, flat_map}
+use Rattle.cweb_tools.proofs.Common.{ℕ, zero, suc, Bool, true, false, cond, not, List, [], ◌∷◌, ◌++◌, length, All-nil, All-cons, All-head, All-tail, All-append, All, Option, None, Some, Stored, Token, Mark, Name, Defs, Part, all_tokens, is_of, is_unnamed, NameId, PartKind, IsMarkBelow, expand, expanded_name, put, option_map_or, defs_first, root_list, MarkFileIsNamed, Setting, joined, names, program, resolved_use, flat_map}
 use Rattle.cweb_store.specs.Parts as parts
 use Rattle.cweb_names.specs.Names as spec
 
@@ -31,7 +31,7 @@ module _ (P : Token → Type 0) where
 
   module _ (w : Stored) (all : All P (all_tokens w.parts)) where
     for_all : (text : NameId → List Token) → ((n : NameId) → All P (text n))
-        → (o : Option NameId) → All P (tokens_for text o)
+        → (o : Option NameId) → All P (option_map_or text o [])
     for_all text texts None = All-nil P
     for_all text texts (Some n) = texts n
 

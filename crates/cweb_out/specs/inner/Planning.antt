@@ -1,16 +1,27 @@
 -- Results of the functions that make a plan.
-use Rattle.std.specs.Prelude.{◌≡◌, ℕ, Bool, true, false, not, ◌&&◌, List, map, find, Option, Some, None}
-use Rattle.std.specs.Prelude.{Result, Ok, Err, option_map}
+use Rattle.std.specs.Prelude.{◌≡◌, ℕ, Bool, true, false, not, ◌&&◌, List, map, find, Option, Some, None, Result, Ok}
+use Rattle.std.specs.Prelude.{Err, option_map, string_bytes, ◌<◌}
 use Rattle.std.specs.List.{list_all, after_last}
 use Rattle.cweb_names.specs.declared.name.NameId.{NameId}
 use Rattle.cweb_store.specs.Calls.{Stored}
-use Rattle.cweb_out.specs.Expansion.{cycle_from, list_ends}
-use Rattle.cweb_out.specs.Outputs.{is_control, is_good_name, is_slash}
-use Rattle.cweb_out.specs.Outputs.{names_no_file, output_name, output_of, root_list, start_of}
-use Rattle.cweb_out.specs.inner.Plans.{output_in}
+use Rattle.cweb_out.specs.Expansion.{cycle_from, list_ends, names}
+use Rattle.cweb_out.specs.Outputs.{is_control, is_good_name, is_slash, names_no_file, output_name, output_of}
+use Rattle.cweb_out.specs.Outputs.{root_list, start_of, Planned}
 use Rattle.cweb_out.specs.declared.outputs.planned.Output.{Output}
 use Rattle.cweb_out.specs.declared.outputs.fault.PlanFault.{PlanFault}
 use Rattle.cweb_out.specs.declared.outputs.fault.PlanFault.TheVariants as fault
+use Rattle.cweb_out.specs.Outputs as spec
+
+-- An output is the main file or belongs to one of the names.
+abbrev pub IsRoot : Stored → Option NameId → Type 0
+IsRoot w None = Unit {0}
+IsRoot w (Some n) = n.0 < names w
+
+abbrev pub output_in : Output → spec.Output
+output_in output = record { name = string_bytes output.name; root = output.root }
+
+abbrev pub planned_of : List Output → Bool → Planned
+planned_of outputs no_text = record { outputs = map output_in outputs; no_text = no_text }
 
 -- The conditions of a good name beside UTF-8: no control byte, and the last path part names a file.
 abbrev pub is_good_path : List ℕ → Bool

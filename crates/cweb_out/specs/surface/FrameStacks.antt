@@ -1,14 +1,23 @@
 -- The model and invariant of a stack of frames.
-use Rattle.std.specs.Prelude.{ℕ, ◌<◌, ◌≡◌, ◌+◌, ◌-◌, List, [], ◌∷◌, ◌++◌, true, Option, Some, None, vec_capacity}
+use Rattle.std.specs.Prelude.{ℕ, ◌<◌, ◌≡◌, ◌+◌, ◌-◌, List, [], ◌∷◌, ◌++◌, true, Option, Some, None, vec_capacity, suc}
+use Rattle.std.specs.Prelude.{zero, Bool, false}
 use Rattle.cweb_names.specs.declared.name.NameId.{NameId}
 use Rattle.cweb_store.specs.Parts.{Token}
 use Rattle.cweb_store.specs.Calls.{Stored}
-use Rattle.cweb_out.specs.Expansion.{names, list_ends, expand}
-use Rattle.cweb_out.specs.surface.Ranks.{name_rank}
+use Rattle.cweb_out.specs.Expansion.{names, list_ends, expand, ends_below}
 use Rattle.cweb_out.specs.Outputs.{root_list}
 use Rattle.cweb_out.specs.surface.FrameSuffixes.{FrameIsWithin, suffix}
 use Rattle.cweb_out.specs.declared.expander.Expander.{Expander}
 use Rattle.cweb_out.specs.declared.frame.Frame.{Frame}
+
+-- The least number below n that passes a test, or n.
+abbrev pub least : (ℕ → Bool) → ℕ → ℕ
+least test zero = zero
+least test (suc n) = elim (test zero) [ true ↦ zero | false ↦ suc (least (λ k. test (suc k)) n) ]
+
+-- The rank of a name: the least bound of the ranks of all names that its list uses.
+abbrev pub name_rank : Stored → NameId → ℕ
+name_rank w n = least (λ k. ends_below w (suc k) n) (names w)
 
 -- The expanded suffixes of all frames, top frame first. The bottom frame is first in the list and is expanded k deep.
 abbrev pub left_at_depth : Stored → ℕ → List Frame → List Token

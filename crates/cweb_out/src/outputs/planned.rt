@@ -2,7 +2,7 @@
 ghost use Rattle.std.specs.Prelude.{◌≡◌, ◌<◌, ◌^◌, length};
 ghost use Rattle.cweb_out.specs.Outputs.{Planned};
 ghost use Rattle.cweb_out.specs.surface.Outputs.{output_name_at, root_at};
-ghost use Rattle.cweb_out.specs.inner.Plans.{planned_of};
+ghost use Rattle.cweb_out.specs.inner.Planning.{planned_of};
 
 use cweb_store::NameId;
 use std::marker::Model;

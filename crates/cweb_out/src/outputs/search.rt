@@ -4,7 +4,7 @@ ghost use Rattle.std.specs.Prelude.{length, map, sum_by, option_map, All, IfOk, 
 ghost use Rattle.std.specs.List.{list_all};
 ghost use Rattle.cweb_out.specs.Expansion.{names, uses};
 ghost use Rattle.cweb_out.specs.surface.FrameSuffixes.{FrameIsWithin, suffix};
-ghost use Rattle.cweb_out.specs.inner.Outputs.{IsRoot};
+ghost use Rattle.cweb_out.specs.inner.Planning.{IsRoot};
 ghost use Rattle.cweb_out.specs.inner.Planning.{first_cycle};
 ghost use Rattle.cweb_out.specs.inner.Search.{Chain, IsIdle, MarksFitPath, Goes, FindsUnranked, Settles};
 ghost use Rattle.cweb_out.specs.inner.Search.{SettlesList, Waited, back_to, is_marked, mark_of};

@@ -2,7 +2,7 @@
 ghost use Rattle.std.specs.Prelude.{◌≡◌, ◌<◌, ◌+◌, ◌^◌, ◌∷◌, IfSome};
 ghost use Rattle.cweb_scan.specs.surface.ScannedModel.{scanned_model};
 ghost use Rattle.cweb_out.specs.Outputs.{planned};
-ghost use Rattle.cweb_out.specs.surface.Planning.{IsExpectedFault};
+ghost use Rattle.cweb_out.specs.surface.Outputs.{IsExpectedFault};
 ghost use Rattle.cweb_log.specs.Items.{refusal_message};
 ghost use Rattle.cweb_tools.specs.Acts.{plans};
 ghost use Rattle.cweb_tools.specs.inner.Does.{EndsInLog};

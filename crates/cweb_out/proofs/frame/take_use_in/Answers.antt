@@ -1,4 +1,4 @@
-use Rattle.cweb_out.proofs.Common.{◌++◌, ◌∙◌, [], ap, arith, refl, Some, Name, all_tokens, token_model, slice_range}
+use Rattle.cweb_out.proofs.Common.{◌++◌, ◌∙◌, ap, arith, Some, Name, all_tokens, token_model, slice_range}
 use Rattle.cweb_store.proofs.RangeLemmas.{range-split, range-head}
 use Rattle.cweb_out.proofs.frame.take_use_in.Goals as goal
 

@@ -1,4 +1,4 @@
-use Rattle.cweb_out.proofs.Common.{arith, Name}
+use Rattle.cweb_out.proofs.Common.{arith}
 use Rattle.cweb_out.proofs.Suffixes.{suffix-first}
 use Rattle.cweb_out.proofs.frame.Frame.take_name.Goals as goal
 

@@ -1,6 +1,5 @@
-use Rattle.cweb_out.proofs.Common.{◌≡◌, ◌≤◌, ◌-◌, ◌∙◌, sym, ap, arith, length, drop, not, is_slash}
+use Rattle.cweb_out.proofs.Common.{arith}
 use Rattle.std.proofs.Common.{length-drop}
-use Rattle.std.specs.List.{suffix_len}
 use Rattle.std.proofs.lemmas.List.Sums.{suffix_len_is}
 use Rattle.std.proofs.lemmas.List.{take_all}
 use Rattle.cweb_out.proofs.outputs.file_name.last_part.Goals as goal

@@ -1,5 +1,4 @@
-use Rattle.cweb_out.proofs.Common.{◌<◌, ◌∙◌, ap, sym, arith, refl, length, bytes_eq, id, name_spelling}
-use Rattle.cweb_names.specs.Names as spec
+use Rattle.cweb_out.proofs.Common.{arith}
 use Rattle.cweb_out.proofs.Finds.{find-at, find-more}
 use Rattle.cweb_out.proofs.outputs.planning.first_same.Goals as goal
 

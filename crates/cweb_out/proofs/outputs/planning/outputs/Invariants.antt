@@ -1,5 +1,5 @@
 use Rattle.cweb_out.proofs.Common.{◌≡◌, None, take, map, find, output_of, is_bad}
-use Rattle.cweb_out.specs.inner.Plans.{output_in}
+use Rattle.cweb_out.specs.inner.Planning.{output_in}
 use Rattle.cweb_out.proofs.outputs.planning.outputs.Given as goal
 
 abbrev pub invariant-roots : goal.invariant-roots
