@@ -1,6 +1,6 @@
 -- The model of a store, from its tokens, occurrences and names.
-use Rattle.cweb_store.proofs.Common.{◌≡◌, ℕ, zero, suc, ◌+◌, ◌<◌, Bool, List, [], ◌∷◌, ◌++◌, Option, Some, map, length, drop, refl, sym, ◌∙◌, ap, arith, length-append, get_or, slice_get, option_map, length-map, drop-append_seam, NameId, NameFault, OccurrenceForm, PartRange, Links, Occurrence, Name, Resolution, with_full_name, with_occurrence_name, names_from, names, Token, Replacement, IsWhole, closed_in, stored, too_many, AreAnswers, AreLinked, occurrence_text, replacement_bytes, occurrence_form, occurrences_at, replacements_at, stored_in, AreLast, AreStored}
-use Rattle.std.specs.Prelude.{◌^◌}
+use Rattle.cweb_store.proofs.Common.{◌≡◌, ℕ, zero, suc, ◌+◌, ◌<◌, List, [], ◌∷◌, ◌++◌, Option, Some, map, length, drop, refl, sym, ◌∙◌, ap, arith, length-append, get_or, slice_get, option_map, length-map, drop-append_seam, OccurrenceForm, PartRange, Occurrence, Name, with_full_name, with_occurrence_name, names_from, names, Token, Replacement, IsWhole, closed_in, stored, AreAnswers, AreLinked, occurrence_text, replacement_bytes, occurrence_form, occurrences_at, replacements_at, stored_in, AreLast, AreStored}
+use Rattle.cweb_store.specs.declared.store.answers.Answers.{Answers}
 use Rattle.cweb_store.proofs.RangeLemmas.{drop-here}
 
 occurrences-back : (os : List Occurrence) (more : List (List ℕ))
@@ -27,18 +27,18 @@ pub stored-is : (ts : List Token) (ranges : List PartRange) (os : List Occurrenc
     ≡ stored os (map (closed_in ts) ranges) rs
 stored-is ts ranges os rs = cc (occurrences-back os (map replacement_bytes rs), replacements-after os rs)
 
-pub stored-are : (ts : List Token)
-    (ranges : List PartRange) (links : Links) (os : List Occurrence) (rs : List Replacement)
-    (last_places : List (Option ℕ))
-    (firsts : List ℕ) (resolutions : List Resolution) (files : List NameId) (faults : List NameFault) (has_defs : Bool)
-    → IsWhole ts ranges → AreLinked resolutions ranges links.skips.items links.heads
-    → AreLast last_places (map (λ r. r.byte) rs) → firsts ≡ map (λ n. n.first) (names os) → length (names os) < too_many
-    → length resolutions < 2 ^ 32 → AreAnswers os (map (closed_in ts) ranges) resolutions files faults has_defs
-    → AreStored ts ranges links (strings_of os rs)
-    (map occurrence_form os) (map (λ r. r.byte) rs) last_places firsts resolutions files faults has_defs
-stored-are ts ranges links os rs last_places firsts resolutions files faults has_defs whole linked last places few
-    small answers =
-    grind (arith, occurrences-back, whole, length-append, length-map, small, few, closed_in)
+pub stored-are : (ts : List Token) (ranges : List PartRange) (os : List Occurrence) (rs : List Replacement)
+    (last_places : List (Option ℕ)) (all : Answers) → IsWhole ts ranges
+    → AreLinked all.resolutions.items ranges all.links.skips.items all.links.heads
+    → AreLast last_places (map (λ r. r.byte) rs) → AreAnswers os (map (closed_in ts) ranges) all
+    → AreStored ts ranges (strings_of os rs) (map occurrence_form os) (map (λ r. r.byte) rs) last_places all
+stored-are ts ranges os rs last_places all whole linked last answers = record {
+  whole = whole;
+  linked = linked;
+  strings = grind (arith, length-append, length-map);
+  last = last;
+  answers = rw (occurrences-back os (map replacement_bytes rs)) answers;
+}
 
 pub occurrence-text : (ts : List (List ℕ)) (gs : List OccurrenceForm) (k : ℕ) → k < length (occurrences_at ts gs)
     → option_map (λ (o : Occurrence). o.text) (slice_get (occurrences_at ts gs) k) ≡ slice_get ts k

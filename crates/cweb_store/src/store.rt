@@ -17,15 +17,13 @@ ghost use Rattle.cweb_store.specs.surface.StoredStrings.{stored_strings};
 ghost use Rattle.cweb_store.specs.inner.Next.{IsNextNumber, is_name_use};
 
 use crate::parts::closed::ClosedParts;
-use crate::parts::links::Links;
 use crate::parts::{Part, PartRange};
 use crate::replacements::{Replacements, last_places};
 use crate::store::answers::Answers;
 use crate::tokens::Token;
 use crate::tokens::closed::ClosedTokens;
-use cweb_names::{NameFault, NameId, NameRef, NameTable, OccurrenceForm, Resolutions, resolved_at};
+use cweb_names::{NameFault, NameId, NameRef, NameTable, OccurrenceForm, resolved_at};
 use cweb_texts::StringList;
-use indexmap::IndexSet;
 use std::alloc::{AllocError, Global};
 use std::marker::Model;
 
@@ -33,17 +31,12 @@ use std::marker::Model;
 pub struct Store {
     tokens: ClosedTokens,
     ranges: Vec<PartRange>,
-    links: Links,
     // the strings of the occurrences, then those of the replacements
     strings: StringList,
     forms: Vec<OccurrenceForm>,
     replaced: Vec<u8>,
     last_places: Vec<Option<usize>>,
-    firsts: Vec<u32>,
-    resolutions: Resolutions,
-    files: IndexSet<NameId>,
-    faults: Vec<NameFault>,
-    has_defs_code: bool,
+    answers: Answers,
 }
 
 // One call frees it, not one per field.
@@ -52,16 +45,11 @@ impl Drop for Store {
         let Store {
             tokens: _,
             ranges: _,
-            links: _,
             strings: _,
             forms: _,
             replaced: _,
             last_places: _,
-            firsts: _,
-            resolutions: _,
-            files: _,
-            faults: _,
-            has_defs_code: _,
+            answers: _,
         } = self;
     }
 }
@@ -77,8 +65,8 @@ impl Model for Store {
         stored_in s.tokens s.ranges.items s.strings s.forms.items s.replaced.items };
 
     ghost invariant = { λ s.
-        AreStored s.tokens s.ranges.items s.links s.strings s.forms.items s.replaced.items
-        s.last_places.items s.firsts.items s.resolutions.items s.files.keys s.faults.items s.has_defs_code };
+        AreStored s.tokens s.ranges.items s.strings s.forms.items s.replaced.items
+        s.last_places.items s.answers };
 }
 
 impl Store {
@@ -96,28 +84,15 @@ impl Store {
         let (tokens, ranges) = parts.take_apart();
         let (mut strings, forms) = table.close();
         let replaced = replacements.close(&mut strings)?;
-        let Answers {
-            firsts,
-            resolutions,
-            files,
-            faults,
-            links,
-            has_defs_code,
-        } = answers;
         let last_places = last_places(alloc, replaced.as_slice())?;
         let store = Store {
             tokens,
             ranges,
-            links,
             strings,
             forms,
             replaced,
             last_places,
-            firsts,
-            resolutions,
-            files,
-            faults,
-            has_defs_code,
+            answers,
         };
         Ok(store)
     }
@@ -144,14 +119,14 @@ impl Store {
         ensures name { result ≡ spec.resolved_at (spec.resolutions self.now.occurrences) name.0 }
         ensures within { IfSome result (λ id. id.0 < length (spec.names self.now.occurrences)) }
     {
-        resolved_at(self.resolutions.as_slice(), name.0 as usize)
+        resolved_at(self.answers.resolutions.as_slice(), name.0 as usize)
     }
 
     /// The number of occurrences of names.
     pub fn occurrences(&self) -> u32
         ensures { result ≡ length self.now.occurrences }
     {
-        self.resolutions.len() as u32
+        self.answers.resolutions.len() as u32
     }
 
     /// The number of names.
@@ -159,7 +134,7 @@ impl Store {
         ensures count { result ≡ length (spec.names self.now.occurrences) }
         ensures few { result < too_many }
     {
-        self.firsts.len() as u32
+        self.answers.firsts.len() as u32
     }
 
     /// The bytes of a name.
@@ -168,7 +143,7 @@ impl Store {
         ensures { option_map (λ n. n.text) (slice_get (spec.names self.now.occurrences) name.0)
             ≡ Some result.now }
     {
-        self.strings.string(self.firsts[name.0 as usize] as usize)
+        self.strings.string(self.answers.firsts[name.0 as usize] as usize)
     }
 
     /// The bytes of an occurrence. For an abbreviation, these are its prefix without the dots.
@@ -185,14 +160,14 @@ impl Store {
         ensures files { result.now ≡ spec.files self.now.occurrences }
         ensures within { All (λ id. id.0 < length (spec.names self.now.occurrences)) result.now }
     {
-        self.files.as_slice()
+        self.answers.files.as_slice()
     }
 
     /// Whether a part of C text has a Defs. A `const fn` allocates nothing.
     pub const fn has_defs_code(&self) -> bool
         ensures { result ≡ has_defs_code self.now.parts }
     {
-        self.has_defs_code
+        self.answers.has_defs_code
     }
 
     /// The transliteration of a byte, if any.
@@ -211,7 +186,7 @@ impl Store {
         ensures within { All
             (λ fault. fault.occurrence.0 < length self.now.occurrences) result.now }
     {
-        self.faults.as_slice()
+        self.answers.faults.as_slice()
     }
 
     /// The number of bytes of all strings: of tokens, occurrences and replacements. Equal strings of Words and

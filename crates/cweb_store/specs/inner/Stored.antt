@@ -1,12 +1,10 @@
 -- The representation of a store, and its model.
-use Rattle.std.specs.Prelude.{◌≡◌, ◌<◌, ℕ, ◌+◌, ◌^◌, Bool, List, [], ◌∷◌, Option, Some, None, map, length, drop}
+use Rattle.std.specs.Prelude.{◌≡◌, ◌<◌, ℕ, ◌+◌, ◌^◌, List, [], ◌∷◌, Option, Some, None, map, length, drop}
 use Rattle.std.specs.Prelude.{slice_get, nat_eq, if◌then◌else◌}
-use Rattle.cweb_names.specs.declared.name.NameId.{NameId}
-use Rattle.cweb_names.specs.declared.name.NameFault.{NameFault}
 use Rattle.cweb_names.specs.declared.table.OccurrenceForm.{OccurrenceForm}
 use Rattle.cweb_store.specs.declared.parts.PartRange.{PartRange}
-use Rattle.cweb_store.specs.declared.parts.links.Links.{Links}
-use Rattle.cweb_names.specs.Names.{Resolution, names, Occurrence}
+use Rattle.cweb_store.specs.declared.store.answers.Answers.{Answers}
+use Rattle.cweb_names.specs.Names.{Occurrence}
 use Rattle.cweb_names.specs.surface.Names.{too_many}
 use Rattle.cweb_names.specs.inner.OccurrenceTables.{occurrences_at}
 use Rattle.cweb_store.specs.Calls.{Replacement, Stored, stored}
@@ -21,12 +19,15 @@ use Rattle.cweb_store.specs.declared.replacements.Replaced.{Replaced}
 abbrev pub replacement_in : Replaced → Replacement
 replacement_in r = record { byte = r.byte; text = r.text.items }
 
-pub record AreAnswers (os : List Occurrence) (ps : List Part) (resolutions : List Resolution) (files : List NameId)
-    (faults : List NameFault) (has_defs : Bool) : Type 0 where
-  pub settled : resolutions ≡ spec.resolutions os
-  pub forms : files ≡ spec.files os
-  pub found : faults ≡ wrong.faults os ps
-  pub defs : has_defs ≡ has_defs_code ps
+-- What a store computes from its occurrences and parts.
+pub record AreAnswers (os : List Occurrence) (ps : List Part) (all : Answers) : Type 0 where
+  pub settled : all.resolutions.items ≡ spec.resolutions os
+  pub forms : all.files.keys ≡ spec.files os
+  pub found : all.faults.items ≡ wrong.faults os ps
+  pub defs : all.has_defs_code ≡ has_defs_code ps
+  pub first_places : all.firsts.items ≡ map (λ n. n.first) (spec.names os)
+  pub few : length all.firsts.items < too_many
+  pub small : length all.resolutions.items < 2 ^ 32
 
 -- Replacements from their strings and bytes.
 abbrev pub replacements_at : List (List ℕ) → List ℕ → List Replacement
@@ -49,15 +50,10 @@ stored_in tokens ranges strings forms replaced =
     stored (occurrences_at strings forms) (map (closed_in tokens) ranges)
     (replacements_at (drop (length forms) strings) replaced)
 
-pub record AreStored (tokens : List Token) (ranges : List PartRange) (links : Links) (texts : List (List ℕ))
-    (forms : List OccurrenceForm) (replaced : List ℕ) (last_places : List (Option ℕ)) (firsts : List ℕ)
-    (resolutions : List Resolution) (files : List NameId) (faults : List NameFault) (has_defs : Bool) : Type 0 where
+pub record AreStored (tokens : List Token) (ranges : List PartRange) (texts : List (List ℕ))
+    (forms : List OccurrenceForm) (replaced : List ℕ) (last_places : List (Option ℕ)) (all : Answers) : Type 0 where
   pub whole : IsWhole tokens ranges
-  pub linked : AreLinked resolutions ranges links.skips.items links.heads
+  pub linked : AreLinked all.resolutions.items ranges all.links.skips.items all.links.heads
   pub strings : length texts ≡ length forms + length replaced
   pub last : AreLast last_places replaced
-  pub small : length resolutions < 2 ^ 32
-  pub few : length firsts < too_many
-  pub first_places : firsts ≡ map (λ n. n.first) (names (occurrences_at texts forms))
-  pub answers : AreAnswers (occurrences_at texts forms) (map (closed_in tokens) ranges) resolutions files faults
-      has_defs
+  pub answers : AreAnswers (occurrences_at texts forms) (map (closed_in tokens) ranges) all

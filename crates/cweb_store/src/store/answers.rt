@@ -1,10 +1,8 @@
 // Results that need all names and parts.
 
-ghost use Rattle.std.specs.Prelude.{◌≡◌, ◌<◌, ◌^◌, length, map, IfOk, OnOk};
+ghost use Rattle.std.specs.Prelude.{IfOk};
 ghost use Rattle.cweb_store.specs.inner.Stored.{AreAnswers};
-ghost use Rattle.cweb_names.specs.surface.Names.{too_many};
 ghost use Rattle.cweb_store.specs.inner.Links.{AreLinked};
-ghost use Rattle.cweb_names.specs.Names.{names};
 ghost use Rattle.cweb_store.specs.inner.PartRanges.{ranges_from};
 
 use crate::faults::name_faults;
@@ -29,14 +27,9 @@ pub(crate) struct Answers {
 impl Answers {
     /// Computes the answers for a web's names and parts.
     pub fn of(alloc: Global, table: &NameTable, parts: &ClosedParts) -> Result<Answers, AllocError>
-        ensures answers { IfOk result (λ all. AreAnswers table.now parts.now
-            all.resolutions.items all.files.keys all.faults.items all.has_defs_code) }
-        ensures firsts { IfOk result (λ all. all.firsts.items
-            ≡ map (λ n. n.first) (names table.now)) }
+        ensures answers { IfOk result (λ all. AreAnswers table.now parts.now all) }
         ensures linked { IfOk result (λ all. AreLinked all.resolutions.items
             (ranges_from 0 parts.now) all.links.skips.items all.links.heads) }
-        ensures small { IfOk result (λ all. length all.resolutions.items < 2 ^ 32) }
-        ensures few { OnOk result (length (names table.now) < too_many) }
     {
         let (names, resolutions) = table.resolve()?;
         let files = table.files(resolutions.as_slice())?;

@@ -16,17 +16,14 @@ invariant_of-store c =
     let replaced = c.in_ok-replaced.ensures in
     let strings : c.close.new.strings ≡ strings_of os rs = replaced.strings
     ∙ ap (λ (us : List (List ℕ)). us ++ map replacement_bytes rs) closed.strings in
-    let answers = subst (λ (ps : List Part). AreAnswers os
-    ps all.resolutions.items all.files.keys all.faults.items all.has_defs_code)
-    (sym apart.ensures.parts) found.answers in
+    let answers = subst (λ (ps : List Part). AreAnswers os ps all) (sym apart.ensures.parts) found.answers in
     let linked = subst (λ
     (xs : List PartRange). AreLinked all.resolutions.items xs all.links.skips.items all.links.heads)
     (ap (ranges_from 0) (sym apart.ensures.parts) ∙ sym (stored-ranges ts ranges apart.ensures.whole)) found.linked in
     let last = subst (AreLast c.in_ok-last_places.last_places.items) (c.as_slice.ensures.value ∙ replaced.bytes)
     c.in_ok-last_places.ensures in
     rw (strings, closed.forms, replaced.bytes)
-    (stored-are ts ranges all.links os rs _ _ _ _ _ _ apart.ensures.whole linked last found.firsts found.few found.small
-    answers)
+    (stored-are ts ranges os rs _ all apart.ensures.whole linked last answers)
 
 pub returns : goal.returns
 returns c =

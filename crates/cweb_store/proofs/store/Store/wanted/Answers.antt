@@ -7,7 +7,7 @@ use Rattle.cweb_store.proofs.store.Store.wanted.Goals as goal
 
 -- The parts that the iterator visits, from the ranges and resolutions of the store.
 met : (c : goal.After-new)
-    → c.new.result ≡ wanted_in c.self.inside.resolutions.items c.args.wanted c.self.inside.ranges.items
+    → c.new.result ≡ wanted_in c.self.inside.answers.resolutions.items c.args.wanted c.self.inside.ranges.items
 met c = grind arith
 
 pub returns-clause-numbers : goal.returns-clause-numbers
