@@ -1,5 +1,5 @@
 -- The model of a store, from its tokens, occurrences and names.
-use Rattle.cweb_store.proofs.Common.{◌≡◌, ℕ, zero, suc, ◌+◌, ◌<◌, List, [], ◌∷◌, ◌++◌, Option, Some, map, length, drop, refl, sym, ◌∙◌, ap, arith, length-append, get_or, slice_get, option_map, length-map, drop-append_seam, OccurrenceForm, PartRange, Occurrence, Name, with_full_name, with_occurrence_name, names_from, names, Token, Replacement, IsWhole, closed_in, stored, AreAnswers, AreLinked, occurrence_text, replacement_bytes, occurrence_form, occurrences_at, replacements_at, stored_in, AreLast, AreStored}
+use Rattle.cweb_store.proofs.Common.{Part, ◌≡◌, ℕ, zero, suc, ◌+◌, ◌<◌, List, [], ◌∷◌, ◌++◌, Option, Some, map, length, drop, refl, sym, ◌∙◌, ap, arith, length-append, get_or, slice_get, option_map, length-map, drop-append_seam, OccurrenceForm, Occurrence, Name, with_full_name, with_occurrence_name, names_from, names, Replacement, stored, AreAnswers, occurrence_text, replacement_bytes, occurrence_form, occurrences_at, replacements_at, stored_in, AreLast, AreStored}
 use Rattle.cweb_store.specs.declared.store.answers.Answers.{Answers}
 use Rattle.cweb_store.proofs.RangeLemmas.{drop-here}
 
@@ -22,20 +22,15 @@ abbrev pub strings_of : List Occurrence → List Replacement → List (List ℕ)
 strings_of os rs = map occurrence_text os ++ map replacement_bytes rs
 
 -- The representation has the model of what was added.
-pub stored-is : (ts : List Token) (ranges : List PartRange) (os : List Occurrence) (rs : List Replacement)
-    → stored_in ts ranges (strings_of os rs) (map occurrence_form os) (map (λ r. r.byte) rs)
-    ≡ stored os (map (closed_in ts) ranges) rs
-stored-is ts ranges os rs = cc (occurrences-back os (map replacement_bytes rs), replacements-after os rs)
+pub stored-is : (ps : List Part) (os : List Occurrence) (rs : List Replacement)
+    → stored_in ps (strings_of os rs) (map occurrence_form os) (map (λ r. r.byte) rs) ≡ stored os ps rs
+stored-is ps os rs = cc (occurrences-back os (map replacement_bytes rs), replacements-after os rs)
 
-pub stored-are : (ts : List Token) (ranges : List PartRange) (os : List Occurrence) (rs : List Replacement)
-    (last_places : List (Option ℕ)) (all : Answers) → IsWhole ts ranges
-    → AreLinked all.resolutions.items ranges all.links.skips.items all.links.heads
-    → AreLast last_places (map (λ r. r.byte) rs) → AreAnswers os (map (closed_in ts) ranges) all
-    → AreStored ts ranges (strings_of os rs) (map occurrence_form os) (map (λ r. r.byte) rs) last_places all
-stored-are ts ranges os rs last_places all whole linked last answers = record {
-  whole = whole;
-  linked = linked;
-  strings = grind (arith, length-append, length-map);
+pub stored-are : (ps : List Part) (os : List Occurrence) (rs : List Replacement) (last_places : List (Option ℕ))
+    (all : Answers) → AreLast last_places (map (λ r. r.byte) rs) → AreAnswers os ps all
+    → AreStored ps (strings_of os rs) (map occurrence_form os) (map (λ r. r.byte) rs) last_places all
+stored-are ps os rs last_places all last answers = record {
+  count = grind (arith, length-append, length-map);
   last = last;
   answers = rw (occurrences-back os (map replacement_bytes rs)) answers;
 }

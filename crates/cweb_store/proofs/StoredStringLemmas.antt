@@ -1,11 +1,11 @@
 -- The strings of a store: replacements, and the number of bytes.
-use Rattle.cweb_store.proofs.Common.{◌≡◌, ℕ, ◌+◌, ◌≤◌, ◌<◌, Bool, true, false, List, [], ◌∷◌, ◌++◌, Option, Some, None, map, length, drop, refl, sym, ap, subst, arith, length-append, length-drop, flat_map, slice_get, option_and_then, nat_eq, if◌then◌else◌, OccurrenceForm, PartRange, Token, all_tokens, fold, Replacement, replacement, IsWhole, closed_in, Stored, total, token_strings, interned_token_bytes, occurrence_text, replacement_bytes, stored_strings, uninterned_store_bytes, interned_store_bytes, AreSpansOf, AreInOneList, occurrences_at, replacements_at, last_from, stored_in}
+use Rattle.cweb_store.proofs.Common.{◌≡◌, ℕ, ◌+◌, ◌≤◌, ◌<◌, Bool, true, false, List, [], ◌∷◌, ◌++◌, Option, Some, None, map, length, drop, refl, ap, arith, length-append, length-drop, flat_map, slice_get, option_and_then, nat_eq, if◌then◌else◌, OccurrenceForm, all_tokens, fold, Replacement, replacement, Stored, total, token_strings, interned_token_bytes, occurrence_text, replacement_bytes, stored_strings, uninterned_store_bytes, interned_store_bytes, AreSpansOf, AreInOneList, occurrences_at, replacements_at, last_from, stored_in}
 use Rattle.cweb_store.proofs.RangeLemmas.{drop-here}
 use Rattle.cweb_texts.proofs.ListLemmas.{get-drop}
 use Rattle.cweb_texts.specs.inner.StringLists.{text_bytes}
 use Rattle.cweb_store.proofs.WordLemmas.{kept-few}
 use Rattle.cweb_store.proofs.TokenStringLemmas.{all-drop, all-both, all-before, all-after, strings-valid, bytes-total}
-use Rattle.cweb_store.proofs.PartRangeLemmas.{whole-tokens}
+use Rattle.cweb_store.specs.Parts.{Part}
 
 -- The replacement of a byte after more calls: the last one wins.
 abbrev replaced_by : ℕ → Option (List ℕ) → List Replacement → Option (List ℕ)
@@ -59,22 +59,19 @@ replacements-valid bytes ts [] h = tt
 replacements-valid bytes [] (b ∷ bs) h = tt
 replacements-valid bytes (t ∷ ts) (b ∷ bs) h = (h.0, replacements-valid bytes ts bs h.1)
 
-pub store-strings : (n m : ℕ) (tokens : List Token) (ranges : List PartRange) (strings : List (List ℕ))
-    (forms : List OccurrenceForm) (replaced : List ℕ)
-    → IsWhole tokens ranges → AreInOneList n (flat_map token_strings tokens) → m ≡ length (text_bytes strings)
-    → AreInOneList (n + m) (stored_strings (stored_in tokens ranges strings forms replaced))
-store-strings n m tokens ranges strings forms replaced whole all count =
+pub store-strings : (n m : ℕ) (parts : List Part) (strings : List (List ℕ)) (forms : List OccurrenceForm)
+    (replaced : List ℕ) → AreInOneList n (flat_map token_strings (all_tokens parts)) → m ≡ length (text_bytes strings)
+    → AreInOneList (n + m) (stored_strings (stored_in parts strings forms replaced))
+store-strings n m parts strings forms replaced all count =
     let bytes = all.bytes ++ text_bytes strings in
-    let own : AreSpansOf bytes (flat_map token_strings (all_tokens (map (closed_in tokens) ranges))) =
-    subst (λ (ts : List Token). AreSpansOf bytes (flat_map token_strings ts)) (sym (whole-tokens tokens ranges whole))
-    (all-before all.bytes (text_bytes strings) (flat_map token_strings tokens) all.ranges) in
+    let own = all-before all.bytes (text_bytes strings) (flat_map token_strings (all_tokens parts)) all.ranges in
     let others = all-after all.bytes (text_bytes strings) strings (strings-valid strings) in
     let os = occurrences_at strings forms in
     let rs = replacements_at (drop (length forms) strings) replaced in
     record {
       bytes = bytes;
       count = omega (arith, length-append all.bytes (text_bytes strings), all.count, count);
-      ranges = all-both bytes (flat_map token_strings (all_tokens (map (closed_in tokens) ranges)))
+      ranges = all-both bytes (flat_map token_strings (all_tokens parts))
           (map occurrence_text os ++ map replacement_bytes rs) own
           (all-both bytes (map occurrence_text os) (map replacement_bytes rs)
           (occurrences-valid bytes strings forms others)
@@ -98,12 +95,11 @@ others-total (t ∷ ts) [] bs h = omega (arith, replacements-total (t ∷ ts) bs
 others-total [] (g ∷ gs) bs h = absurd (let none : ⊥ = omega arith in none)
 others-total (t ∷ ts) (g ∷ gs) bs h = omega (arith, others-total ts gs bs (omega arith))
 
-pub store-bytes : (tokens : List Token) (ranges : List PartRange) (strings : List (List ℕ))
-    (forms : List OccurrenceForm) (replaced : List ℕ)
-    → IsWhole tokens ranges → length strings ≡ length forms + length replaced
-    → interned_token_bytes tokens + length (text_bytes strings)
-    ≡ interned_store_bytes (stored_in tokens ranges strings forms replaced)
-store-bytes tokens ranges strings forms replaced whole size = grind (arith, whole-tokens, bytes-total, others-total)
+pub store-bytes : (parts : List Part) (strings : List (List ℕ)) (forms : List OccurrenceForm) (replaced : List ℕ)
+    → length strings ≡ length forms + length replaced
+    → interned_token_bytes (all_tokens parts) + length (text_bytes strings)
+    ≡ interned_store_bytes (stored_in parts strings forms replaced)
+store-bytes parts strings forms replaced size = grind (arith, bytes-total, others-total)
 
 -- Interning never needs more bytes.
 pub bytes-few : (s : Stored) → interned_store_bytes s ≤ uninterned_store_bytes s

@@ -17,11 +17,10 @@ ghost use Rattle.cweb_store.specs.surface.StoredStrings.{stored_strings};
 ghost use Rattle.cweb_store.specs.inner.Next.{IsNextNumber, is_name_use};
 
 use crate::parts::closed::ClosedParts;
-use crate::parts::{Part, PartRange};
+use crate::parts::Part;
 use crate::replacements::{Replacements, last_places};
 use crate::store::answers::Answers;
 use crate::tokens::Token;
-use crate::tokens::closed::ClosedTokens;
 use cweb_names::{NameFault, NameId, NameRef, NameTable, OccurrenceForm, resolved_at};
 use cweb_texts::StringList;
 use std::alloc::{AllocError, Global};
@@ -29,8 +28,7 @@ use std::marker::Model;
 
 /// A finished web: the resolution of each occurrence, the parts of each name, and the faults.
 pub struct Store {
-    tokens: ClosedTokens,
-    ranges: Vec<PartRange>,
+    parts: ClosedParts,
     // the strings of the occurrences, then those of the replacements
     strings: StringList,
     forms: Vec<OccurrenceForm>,
@@ -43,8 +41,7 @@ pub struct Store {
 impl Drop for Store {
     fn drop(self) {
         let Store {
-            tokens: _,
-            ranges: _,
+            parts: _,
             strings: _,
             forms: _,
             replaced: _,
@@ -62,11 +59,10 @@ impl Model for Store {
     ghost use Rattle.cweb_store.specs.inner.Stored.{stored_in, AreStored};
 
     ghost view = { λ s.
-        stored_in s.tokens s.ranges.items s.strings s.forms.items s.replaced.items };
+        stored_in s.parts s.strings s.forms.items s.replaced.items };
 
     ghost invariant = { λ s.
-        AreStored s.tokens s.ranges.items s.strings s.forms.items s.replaced.items
-        s.last_places.items s.answers };
+        AreStored s.parts s.strings s.forms.items s.replaced.items s.last_places.items s.answers };
 }
 
 impl Store {
@@ -81,13 +77,11 @@ impl Store {
         ensures { IfOk result (λ store. store ≡ stored table parts replacements) }
     {
         let answers = Answers::of(alloc, &table, &parts)?;
-        let (tokens, ranges) = parts.take_apart();
         let (mut strings, forms) = table.close();
         let replaced = replacements.close(&mut strings)?;
         let last_places = last_places(alloc, replaced.as_slice())?;
         let store = Store {
-            tokens,
-            ranges,
+            parts,
             strings,
             forms,
             replaced,
@@ -103,7 +97,7 @@ impl Store {
         requires { number < length (all_tokens self.now.parts) }
         ensures { slice_get (all_tokens self.now.parts) number ≡ Some (token_model result) }
     {
-        self.tokens.token(number as usize)
+        self.parts.tokens().token(number as usize)
     }
 
     /// The index of the first use of a name in a part or a range of it, or `part.after` if there is none.
@@ -111,7 +105,7 @@ impl Store {
         requires { part.first ≤ part.after }
         ensures { IsNextNumber is_name_use (all_tokens self.now.parts) part result }
     {
-        self.tokens.next_use(part)
+        self.parts.tokens().next_use(part)
     }
 
     /// The name that an occurrence resolves to, if any.
@@ -196,6 +190,6 @@ impl Store {
         ensures once { result ≡ interned_store_bytes self.now }
         ensures few { result ≤ uninterned_store_bytes self.now }
     {
-        self.tokens.text_bytes() as u64 + self.strings.text_bytes() as u64
+        self.parts.tokens().text_bytes() as u64 + self.strings.text_bytes() as u64
     }
 }

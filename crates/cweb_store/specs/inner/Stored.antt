@@ -2,16 +2,15 @@
 use Rattle.std.specs.Prelude.{◌≡◌, ◌<◌, ℕ, ◌+◌, ◌^◌, List, [], ◌∷◌, Option, Some, None, map, length, drop}
 use Rattle.std.specs.Prelude.{slice_get, nat_eq, if◌then◌else◌}
 use Rattle.cweb_names.specs.declared.table.OccurrenceForm.{OccurrenceForm}
-use Rattle.cweb_store.specs.declared.parts.PartRange.{PartRange}
 use Rattle.cweb_store.specs.declared.store.answers.Answers.{Answers}
 use Rattle.cweb_names.specs.Names.{Occurrence}
 use Rattle.cweb_names.specs.surface.Names.{too_many}
 use Rattle.cweb_names.specs.inner.OccurrenceTables.{occurrences_at}
 use Rattle.cweb_store.specs.Calls.{Replacement, Stored, stored}
 use Rattle.cweb_store.specs.surface.StoredStrings.{replacement_of}
-use Rattle.cweb_store.specs.inner.PartRanges.{IsWhole, closed_in}
+use Rattle.cweb_store.specs.inner.PartRanges.{ranges_from}
 use Rattle.cweb_store.specs.inner.Links.{AreLinked}
-use Rattle.cweb_store.specs.Parts.{Token, Part, has_defs_code}
+use Rattle.cweb_store.specs.Parts.{Part, has_defs_code}
 use Rattle.cweb_names.specs.Names as spec
 use Rattle.cweb_store.specs.Faults as wrong
 use Rattle.cweb_store.specs.declared.replacements.Replaced.{Replaced}
@@ -28,6 +27,7 @@ pub record AreAnswers (os : List Occurrence) (ps : List Part) (all : Answers) : 
   pub first_places : all.firsts.items ≡ map (λ n. n.first) (spec.names os)
   pub few : length all.firsts.items < too_many
   pub small : length all.resolutions.items < 2 ^ 32
+  pub linked : AreLinked all.resolutions.items (ranges_from 0 ps) all.links.skips.items all.links.heads
 
 -- Replacements from their strings and bytes.
 abbrev pub replacements_at : List (List ℕ) → List ℕ → List Replacement
@@ -45,15 +45,12 @@ abbrev pub AreLast : List (Option ℕ) → List ℕ → Type 0
 AreLast places bytes = (byte : ℕ) → byte < 256 → slice_get places byte ≡ Some (last_from byte None 0 bytes)
 
 -- The strings are those of the occurrences, then those of the replacements.
-abbrev pub stored_in : List Token → List PartRange → List (List ℕ) → List OccurrenceForm → List ℕ → Stored
-stored_in tokens ranges strings forms replaced =
-    stored (occurrences_at strings forms) (map (closed_in tokens) ranges)
-    (replacements_at (drop (length forms) strings) replaced)
+abbrev pub stored_in : List Part → List (List ℕ) → List OccurrenceForm → List ℕ → Stored
+stored_in parts strings forms replaced =
+    stored (occurrences_at strings forms) parts (replacements_at (drop (length forms) strings) replaced)
 
-pub record AreStored (tokens : List Token) (ranges : List PartRange) (texts : List (List ℕ))
-    (forms : List OccurrenceForm) (replaced : List ℕ) (last_places : List (Option ℕ)) (all : Answers) : Type 0 where
-  pub whole : IsWhole tokens ranges
-  pub linked : AreLinked all.resolutions.items ranges all.links.skips.items all.links.heads
-  pub strings : length texts ≡ length forms + length replaced
+pub record AreStored (parts : List Part) (strings : List (List ℕ)) (forms : List OccurrenceForm) (replaced : List ℕ)
+    (last_places : List (Option ℕ)) (all : Answers) : Type 0 where
+  pub count : length strings ≡ length forms + length replaced
   pub last : AreLast last_places replaced
-  pub answers : AreAnswers (occurrences_at texts forms) (map (closed_in tokens) ranges) all
+  pub answers : AreAnswers (occurrences_at strings forms) parts all

@@ -1,9 +1,9 @@
 // Finished parts.
 
-ghost use Rattle.std.specs.Prelude.{◌≡◌, ◌<◌, length, map, IfOk};
+ghost use Rattle.std.specs.Prelude.{◌≡◌, ◌<◌, length, IfOk};
 ghost use Rattle.cweb_names.specs.surface.Names.{too_many};
-ghost use Rattle.cweb_store.specs.Parts.{has_defs_code};
-ghost use Rattle.cweb_store.specs.inner.PartRanges.{IsWhole, closed_in, ranges_from};
+ghost use Rattle.cweb_store.specs.Parts.{all_tokens, has_defs_code};
+ghost use Rattle.cweb_store.specs.inner.PartRanges.{ranges_from};
 ghost use Rattle.cweb_store.specs.Faults.{is_used};
 ghost use Rattle.cweb_store.specs.inner.Links.{AreWithin, flag_of};
 
@@ -42,13 +42,13 @@ impl ClosedParts {
         self.ranges.as_slice()
     }
 
-    /// The tokens of all parts, and the ranges of the parts.
-    pub fn take_apart(self) -> (ClosedTokens, Vec<PartRange>)
-        ensures whole { IsWhole result.0 result.1.items }
-        ensures parts { map (closed_in result.0) result.1.items ≡ self }
+    /// The tokens of all parts.
+    #[inline(always)]
+    pub fn tokens(&self) -> &ClosedTokens
+        ensures tokens { result.now ≡ all_tokens self.now }
+        ensures few { length result.now < too_many }
     {
-        let ClosedParts { tokens, ranges } = self;
-        (tokens, ranges)
+        &self.tokens
     }
 
     /// For each name, whether the parts of C text use it.

@@ -2,8 +2,6 @@
 
 ghost use Rattle.std.specs.Prelude.{IfOk};
 ghost use Rattle.cweb_store.specs.inner.Stored.{AreAnswers};
-ghost use Rattle.cweb_store.specs.inner.Links.{AreLinked};
-ghost use Rattle.cweb_store.specs.inner.PartRanges.{ranges_from};
 
 use crate::faults::name_faults;
 use crate::parts::closed::ClosedParts;
@@ -27,9 +25,7 @@ pub(crate) struct Answers {
 impl Answers {
     /// Computes the answers for a web's names and parts.
     pub fn of(alloc: Global, table: &NameTable, parts: &ClosedParts) -> Result<Answers, AllocError>
-        ensures answers { IfOk result (λ all. AreAnswers table.now parts.now all) }
-        ensures linked { IfOk result (λ all. AreLinked all.resolutions.items
-            (ranges_from 0 parts.now) all.links.skips.items all.links.heads) }
+        ensures { IfOk result (λ all. AreAnswers table.now parts.now all) }
     {
         let (names, resolutions) = table.resolve()?;
         let files = table.files(resolutions.as_slice())?;

@@ -59,7 +59,8 @@ impl Store {
         ensures within { All (λ p. p.after ≤ length (all_tokens self.now.parts)) result }
         ensures few { length result < too_many }
     {
-        let skip = self.ranges.len() as u32 - self.answers.links.heads.get(wanted);
-        Parts::new(self.ranges.as_slice(), self.answers.links.skips.as_slice(), skip)
+        let ranges = self.parts.ranges();
+        let skip = ranges.len() as u32 - self.answers.links.heads.get(wanted);
+        Parts::new(ranges, self.answers.links.skips.as_slice(), skip)
     }
 }

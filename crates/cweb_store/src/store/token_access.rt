@@ -14,7 +14,7 @@ impl Store {
         ensures count { result ≡ length (all_tokens self.now.parts) }
         ensures few { result < too_many }
     {
-        self.tokens.len() as u32
+        self.parts.tokens().len() as u32
     }
 
     /// A reader of all tokens, for a loop that prints many of them.
@@ -22,6 +22,6 @@ impl Store {
     pub fn token_reader(&self) -> TokenReader<'_>
         ensures { result ≡ map direct_bytes (all_tokens self.now.parts) }
     {
-        self.tokens.token_reader()
+        self.parts.tokens().token_reader()
     }
 }

@@ -19,7 +19,7 @@ string_after-requires c =
       last-within c.args.byte s.replaced.items c.in-Some.number (last ∙ c.in-Some.is),
       c.len.ensures,
       s.forms.ok.0,
-      c.self.invariant.strings,
+      c.self.invariant.count,
     )
 
 pub returns-in_default : goal.returns-in_default

@@ -2,23 +2,18 @@ use Rattle.cweb_store.proofs.Common.{◌≡◌, ◌≤◌, List, length, sym, su
 use Rattle.cweb_names.specs.Names as spec
 use Rattle.cweb_store.specs.declared.parts.Part.{Part}
 use Rattle.cweb_store.proofs.PartLemmas.{part-ranges, tokens_at-numbers, numbers-within, numbers-ordered}
-use Rattle.cweb_store.proofs.PartRangeLemmas.{stored-ranges}
 use Rattle.cweb_store.proofs.store.Store.wanted.Goals as goal
 
--- The parts that the iterator visits, from the ranges and resolutions of the store.
-met : (c : goal.After-new)
-    → c.new.result ≡ wanted_in c.self.inside.answers.resolutions.items c.args.wanted c.self.inside.ranges.items
+-- The parts that the iterator visits, from the resolutions of the store.
+met : (c : goal.After-new) → c.new.result
+    ≡ wanted_in c.self.inside.answers.resolutions.items c.args.wanted (ranges_from 0 c.self.inside.parts)
 met c = grind arith
 
 pub returns-clause-numbers : goal.returns-clause-numbers
 returns-clause-numbers c =
-    let s = c.self.inside in
-    let ps = c.args.self.now.parts in
-    let ranges = stored-ranges s.tokens s.ranges.items c.self.invariant.whole
-    ∙ ap (λ v. ranges_from 0 v.parts) c.self.view_is in
     let resolutions = c.self.invariant.answers.settled ∙ ap (λ v. spec.resolutions v.occurrences) c.self.view_is in
-    met c ∙ (λ i. wanted_in (resolutions i) c.args.wanted (ranges i))
-    ∙ part-ranges (is_wanted (spec.resolutions c.args.self.now.occurrences) c.args.wanted) 0 ps
+    met c ∙ (λ i. wanted_in (resolutions i) c.args.wanted (ranges_from 0 (c.self.view_is i).parts))
+    ∙ part-ranges (is_wanted (spec.resolutions c.args.self.now.occurrences) c.args.wanted) 0 c.args.self.now.parts
 
 pub returns-clause-text : goal.returns-clause-text
 returns-clause-text c =
