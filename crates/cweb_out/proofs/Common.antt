@@ -47,7 +47,7 @@ pub use Rattle.cweb_out.specs.Outputs.{has_no_program, is_good_name, name_spelli
 pub use Rattle.cweb_out.specs.Outputs.{planned, planned_apart, planned_ending, root_list, start_of, Output, is_slash}
 pub use Rattle.cweb_out.specs.declared.frame.Frame.{Frame}
 pub use Rattle.cweb_out.specs.declared.outputs.search.Waiting.{Waiting}
-pub use Rattle.cweb_out.specs.inner.FrameStacks.{RanksAreBelow, level, work_of, list_work, name_work, token_work, UsesLower, top_rank}
+pub use Rattle.cweb_out.specs.inner.FrameStacks.{level, work_of, list_work, name_work, token_work, UsesLower, top_rank}
 pub use Rattle.cweb_out.specs.inner.FrameStacks.{Advances, Enters, work_for}
 pub use Rattle.cweb_out.specs.inner.Planning.{IsRoot}
 pub use Rattle.cweb_out.specs.inner.Planning.{is_bad, is_endless}

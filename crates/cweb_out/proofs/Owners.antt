@@ -1,5 +1,5 @@
 -- The owners of frames: the ranks of their lists, and the prefixes that were taken.
-use Rattle.cweb_out.proofs.Common.{◌≡◌, ◌≤◌, ◌<◌, ◌+◌, ◌-◌, ℕ, zero, suc, Bool, true, false, List, [], ◌∷◌, ◌++◌, refl, sym, ◌∙◌, ap, arith, append_assoc, subst, Option, Some, None, list_all, NameId, NameRef, Token, Name, Stored, names, use_of, uses, resolved_use, joined, ends_below, least, list_ends, name_rank, root_list, Frame, FrameIsWithin, suffix, length, rank, top_rank, RanksAreBelow, AreOwned, IsOwned, UsesLower, and_parts}
+use Rattle.cweb_out.proofs.Common.{◌≡◌, ◌≤◌, ◌<◌, ◌+◌, ◌-◌, ℕ, zero, suc, Bool, true, false, List, [], ◌∷◌, ◌++◌, refl, sym, ◌∙◌, ap, arith, append_assoc, subst, Option, Some, None, list_all, NameId, NameRef, Token, Name, Stored, names, use_of, uses, resolved_use, joined, ends_below, least, list_ends, name_rank, root_list, Frame, FrameIsWithin, suffix, length, rank, top_rank, AreOwned, IsOwned, UsesLower, and_parts}
 use Rattle.cweb_out.proofs.Ranks.{all-parts, grows-more}
 
 least-le : (test : ℕ → Bool) (n k : ℕ) → test k ≡ true → least test n ≤ k
@@ -23,7 +23,7 @@ rank-below w (suc k) n h = let le = least-le (λ j. ends_below w (suc j) n) (nam
 
 -- The names that a list uses have ranks below that of its owner.
 owner-below : (w : Stored) (o : Option NameId) → list_ends w (root_list w o) ≡ true
-    → RanksAreBelow w (rank w o) (uses w (root_list w o))
+    → list_all (ends_below w (rank w o)) (uses w (root_list w o)) ≡ true
 owner-below w None h = h
 owner-below w (Some n) h = least-holds (λ k. ends_below w (suc k) n) (names w) h
 
@@ -74,7 +74,7 @@ uses-append w (x ∷ xs) ys = grind (arith, append_assoc, uses-append w xs ys)
 -- A token of the list was taken.
 pub OnTop-next : {w : Stored} {above : ℕ} {fs : List Frame} {f g : Frame} (t : Token) → suffix w f ≡ t ∷ suffix w g
     → FrameIsWithin w g → g.owner ≡ f.owner → OnTop w above fs f
-    → OnTop w above fs g × RanksAreBelow w (rank w g.owner) (use_of w t)
+    → OnTop w above fs g × list_all (ends_below w (rank w g.owner)) (use_of w t) ≡ true
 OnTop-next {w} {above} {fs} {g} t s i o h =
     let list : root_list w g.owner ≡ h.owned.yielded ++ (t ∷ suffix w g) =
     ap (root_list w) o ∙ h.owned.list ∙ ap (λ (ts : List Token). h.owned.yielded ++ ts) s in
@@ -100,11 +100,11 @@ OnTop-next {w} {above} {fs} {g} t s i o h =
 
 -- The first frame.
 pub OnTop-first : {w : Stored} {f : Frame} → root_list w f.owner ≡ suffix w f → FrameIsWithin w f
-    → RanksAreBelow w (names w) (uses w (root_list w f.owner)) → OnTop w (names w + 1) [] f
+    → list_all (ends_below w (names w)) (uses w (root_list w f.owner)) ≡ true → OnTop w (names w + 1) [] f
 OnTop-first {w} {f} l i b =
     record { below = tt; owned = record { within = i; yielded = []; list = l; ends = b }; lower = within f.owner b }
   where
-    within : (o : Option NameId) → RanksAreBelow w (names w) (uses w (root_list w o)) → rank w o < names w + 1
+    within : (o : Option NameId) → list_all (ends_below w (names w)) (uses w (root_list w o)) ≡ true → rank w o < names w + 1
     within None h = omega arith
     within (Some n) h = let le = least-le (λ k. ends_below w (suc k) n) (names w) (names w) h in omega (arith, le)
 

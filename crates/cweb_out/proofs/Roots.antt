@@ -1,5 +1,5 @@
 -- In a plan, the names that an output's list uses have ranks.
-use Rattle.cweb_out.proofs.Common.{◌≡◌, ◌<◌, ℕ, zero, suc, Bool, true, false, not, List, [], ◌∷◌, refl, sym, ◌∙◌, ap, Option, Some, None, map, length, arith, cond, slice_index_or, Result, Ok, Err, find, bytes_eq, get_or-map, length-map, Stored, names, uses, list_ends, RanksAreBelow, Output, Planned, Refusal, bad_name, same_name, cycle, outputs, root_list, output_of, output_name, name_spelling, is_good_name, planned_apart, planned_ending, has_no_program, start_of, root_at, IsPlanOf, cycle_from}
+use Rattle.cweb_out.proofs.Common.{ends_below, list_all, ◌≡◌, ◌<◌, ℕ, zero, suc, Bool, true, false, not, List, [], ◌∷◌, refl, sym, ◌∙◌, ap, Option, Some, None, map, length, arith, cond, slice_index_or, Result, Ok, Err, find, bytes_eq, get_or-map, length-map, Stored, names, uses, list_ends, Output, Planned, Refusal, bad_name, same_name, cycle, outputs, root_list, output_of, output_name, name_spelling, is_good_name, planned_apart, planned_ending, has_no_program, start_of, root_at, IsPlanOf, cycle_from}
 use Rattle.cweb_names.specs.Names as spec
 
 abbrev outcome : {A : Type 0} → Option A → (A → Refusal) → Result Planned Refusal → Result Planned Refusal
@@ -25,7 +25,7 @@ found_none test (x ∷ xs) i d h lt = by i lt (test x) refl h (λ j l e. found_n
     by (suc j) lt true e h later = later j (omega arith) h
 
 pub root_below : (w : Stored) (p : Planned) (number : ℕ) → IsPlanOf w p → number < length p.outputs
-    → RanksAreBelow w (names w) (uses w (root_list w (root_at p.outputs number)))
+    → list_all (ends_below w (names w)) (uses w (root_list w (root_at p.outputs number))) ≡ true
 root_below w p number made lt =
     let main = made.0 in
     let apart = unrefused (find (λ o. not (is_good_name (output_name w main o))) (outputs w))

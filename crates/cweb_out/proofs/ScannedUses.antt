@@ -2,9 +2,15 @@
 use Rattle.cweb_out.proofs.Common.{◌≡◌, ◌<◌, Bool, true, false, ◌&&◌, List, [], ◌∷◌, ◌++◌, refl, sym, ◌∙◌, ap, append-nil, append_assoc, Some, None, list_all, NameId, Token, Stored, names, uses, use_of, has_rank, suffix, Frame, and_parts, PassesNoUse, Waiting}
 use Rattle.cweb_out.specs.declared.outputs.search.Mark.{Mark}
 use Rattle.cweb_out.specs.declared.outputs.search.Mark.TheVariants.{Ranked}
-use Rattle.cweb_out.specs.inner.Search.{MarksFitPath, IsScanned, FindsUnranked, SkipsRanked, is_marked, is_ranked_mark, mark_of}
+use Rattle.cweb_out.specs.inner.Search.{MarksFitPath, IsScanned, FindsUnranked, is_marked, is_ranked_mark, mark_of}
 use Rattle.cweb_out.proofs.FirstUses.{same-uses}
 use Rattle.cweb_out.proofs.Ranks.{all-append}
+
+-- Names with a rank were skipped.
+pub record SkipsRanked (w : Stored) (marks : List Mark) (old new : List Token) : Type 0 where
+  pub before : List NameId
+  pub marked : list_all (is_marked marks) before ≡ true
+  pub same : uses w old ≡ before ++ uses w new
 
 pub passes-more : {w : Stored} {marks : List Mark} {old mid new : List Token} (t : Token) → SkipsRanked w marks old mid
     → mid ≡ t ∷ new → list_all (is_marked marks) (use_of w t) ≡ true → SkipsRanked w marks old new

@@ -1,5 +1,5 @@
 -- The model of a stack after a use of a name, and after one that expands to nothing.
-use Rattle.cweb_out.proofs.Common.{◌≡◌, ◌+◌, ◌-◌, ℕ, suc, [], ◌∷◌, ◌++◌, List, length, refl, sym, ◌∙◌, ap, arith, Some, false, All, NameId, NameRef, Part, Name, all_tokens, Stored, names, uses, resolved_use, joined, expand, expanded_name, put, option_map_or, root_list, Frame, suffix, tokens_of_parts, work_of, list_work, RanksAreBelow, PartIsWithin, FrameIsWithin, IsFrameStack, UsesLower, Enters, left, level, name_work, token_work, work_for}
+use Rattle.cweb_out.proofs.Common.{true, ends_below, list_all, ◌≡◌, ◌+◌, ◌-◌, ℕ, suc, [], ◌∷◌, ◌++◌, List, length, refl, sym, ◌∙◌, ap, arith, Some, false, All, NameId, NameRef, Part, Name, all_tokens, Stored, names, uses, resolved_use, joined, expand, expanded_name, put, option_map_or, root_list, Frame, suffix, tokens_of_parts, work_of, list_work, PartIsWithin, FrameIsWithin, IsFrameStack, UsesLower, Enters, left, level, name_work, token_work, work_for}
 use Rattle.cweb_out.proofs.Owners.{OnTop-entered, OnTop-first, room-above}
 use Rattle.cweb_out.proofs.Stack.{left_of-push, work_of-push, Valid-push}
 
@@ -46,6 +46,6 @@ pub no_parts : (w : Stored) (fs : List Frame) (r : NameRef) (m : NameId)
 no_parts w fs r m e none = grind (arith, none)
 
 pub Valid-one : {w : Stored} {all : List Frame} {f : Frame} {room : ℕ} → all ≡ f ∷ []
-    → FrameIsWithin w f → RanksAreBelow w (names w) (uses w (suffix w f)) → room ≡ names w + 1
+    → FrameIsWithin w f → list_all (ends_below w (names w)) (uses w (suffix w f)) ≡ true → room ≡ names w + 1
     → suffix w f ≡ root_list w f.owner → IsFrameStack w all room
 Valid-one e i b r l = Valid-push {fs = []} e r (OnTop-first (sym l) i (rw (← l) b))

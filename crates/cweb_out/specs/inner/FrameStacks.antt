@@ -12,10 +12,6 @@ use Rattle.cweb_out.specs.declared.expander.Expander.{Expander}
 use Rattle.cweb_out.specs.declared.frame.Frame.{Frame}
 use Rattle.cweb_out.specs.surface.FrameStacks.{IsReady, rank, left}
 
--- Each name of the list has a rank below k.
-abbrev pub RanksAreBelow : Stored → ℕ → List NameId → Type 0
-RanksAreBelow w k ns = list_all (ends_below w k) ns ≡ true
-
 -- The rank of the top frame's owner, or a bound if there is no frame.
 abbrev pub top_rank : Stored → ℕ → List Frame → ℕ
 top_rank w above [] = above
@@ -23,7 +19,7 @@ top_rank w above (f ∷ fs) = top_rank w (rank w f.owner) fs
 
 -- Each name that a token uses has a rank below that of the top frame's owner.
 abbrev pub UsesLower : Stored → List Frame → Token → Type 0
-UsesLower w fs t = RanksAreBelow w (top_rank w (names w + 1) fs) (use_of w t)
+UsesLower w fs t = list_all (ends_below w (top_rank w (names w + 1) fs)) (use_of w t) ≡ true
 
 -- The number of steps for a name or a token at depth k: tokens taken plus frames popped.
 abbrev pub work_for : (NameId → ℕ) → Option NameId → ℕ

@@ -1,6 +1,6 @@
 -- The depth-first search for a cycle.
 use Rattle.std.specs.Prelude.{◌≡◌, ◌<◌, ℕ, Bool, true, false, List, [], ◌∷◌, ◌++◌, Option, Some, None, map, length}
-use Rattle.std.specs.Prelude.{drop, option_to_list, slice_index_or, sum_by, if◌then◌else◌}
+use Rattle.std.specs.Prelude.{drop, option_to_list, slice_index_or, sum_by, if◌then◌else◌, IfSome}
 use Rattle.std.specs.List.{list_all, list_any, position_or_len}
 use Rattle.cweb_names.specs.declared.name.NameId.{NameId}
 use Rattle.cweb_names.specs.Names.{is_id}
@@ -75,12 +75,6 @@ pub record IsIdle (w : Stored) (search : Search) : Type 0 where
   pub fits : MarksFitPath w search.marks.items []
   pub path : search.waiting.items ≡ []
 
--- Names with a rank were skipped.
-pub record SkipsRanked (w : Stored) (marks : List Mark) (old new : List Token) : Type 0 where
-  pub before : List NameId
-  pub marked : list_all (is_marked marks) before ≡ true
-  pub same : uses w old ≡ before ++ uses w new
-
 -- Names with a rank were skipped, up to one without.
 pub record FindsUnranked (w : Stored) (marks : List Mark) (old : List Token) (n : NameId)
     (new : List Token) : Type 0 where
@@ -114,18 +108,13 @@ pub record Waited (w : Stored) (marks : List Mark) (path : List Waiting) (n : Na
   pub looked : IsScanned w (joined w n) top.text None
   pub less : sum_by marks_left more < sum_by marks_left marks
 
--- The name, if any, is on the path.
-abbrev pub IsBack : List Waiting → Option NameId → Type 0
-IsBack path None = Unit {0}
-IsBack path (Some n) = list_any (is_id n) (path_of path) ≡ true
-
 -- One step from the last waiting name: it meets a waiting name, or one more mark is set.
 pub record Goes (w : Stored) (marks : List Mark) (path : List Waiting) (more : List Mark) (after : List Waiting)
     (again : Option NameId) : Type 0 where
   pub fits : MarksFitPath w more after
   pub chain : Chain w after again
   pub begins : (n : NameId) → PathBegins w path n → PathBegins w after n
-  pub back : IsBack after again
+  pub back : IfSome again (λ n. list_any (is_id n) (path_of after) ≡ true)
   pub less : again ≡ None → sum_by marks_left more < sum_by marks_left marks
 
 -- A name has no rank, and the walk from it reaches this cycle.

@@ -1,4 +1,4 @@
-use Rattle.cweb_out.proofs.Common.{◌≡◌, ◌+◌, ◌++◌, ◌∷◌, [], ap, sym, ◌∙◌, vec_capacity, list_all, Stored, names, uses, ends_below, suffix, RanksAreBelow, root_list}
+use Rattle.cweb_out.proofs.Common.{true, ◌≡◌, ◌+◌, ◌++◌, ◌∷◌, [], ap, sym, ◌∙◌, vec_capacity, list_all, Stored, names, uses, ends_below, suffix, root_list}
 use Rattle.cweb_out.proofs.StackUses.{Valid-one}
 use Rattle.cweb_out.proofs.Roots.{root_below}
 use Rattle.cweb_out.proofs.expander.Expander.restart.Goals as goal
@@ -9,7 +9,7 @@ returns-clause-valid c =
     let frame = c.of_root-frame.result in
     let e : c.push_reserved.new.self.items ≡ frame ∷ [] = c.push_reserved.ensures.items
     ∙ ap (λ fs. fs ++ frame ∷ []) c.clear.ensures.items in
-    let b : RanksAreBelow w (names w) (uses w (suffix w frame)) =
+    let b : list_all (ends_below w (names w)) (uses w (suffix w frame)) ≡ true =
     ap (λ ts. list_all (ends_below w (names w)) (uses w ts))
     (c.of_root-frame.ensures.list ∙ ap (root_list w) c.root.ensures)
     ∙ root_below w c.args.self.now.plan.now c.args.root c.requires.made c.requires.root in

@@ -1,5 +1,5 @@
 use Rattle.cweb_out.proofs.Common.{◌≤◌, length, FrameIsWithin, suffix}
-use Rattle.cweb_out.specs.inner.Search.{SkipsRanked}
+use Rattle.cweb_out.proofs.ScannedUses.{SkipsRanked}
 use Rattle.cweb_out.proofs.outputs.search.next_unranked.Given as goal
 
 abbrev pub invariant-uses : goal.invariant-uses
