@@ -57,8 +57,8 @@ left-calls us c (call ∷ calls) h takes =
     let f = left-call c call takes.0 in
     let more = option_to_list (token_of_call call) in
     let next : IsLeftOfTokens (us ++ more) (tokens_of (after_call c call)) =
-        left-less (us ++ more) (tokens_of (after_call c call)) f.rest
-        (subst (IsLeftOfTokens (us ++ more)) f.splits (left-more us (tokens_of c) more h)) f.layout in
+    left-less (us ++ more) (tokens_of (after_call c call)) f.rest
+    (subst (IsLeftOfTokens (us ++ more)) f.splits (left-more us (tokens_of c) more h)) f.layout in
     rw (first-call call calls, ← append_assoc us more (filter_map token_of_call calls))
     (left-calls (us ++ more) (after_call c call) calls next takes.1)
 

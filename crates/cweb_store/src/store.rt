@@ -16,8 +16,8 @@ ghost use Rattle.cweb_store.specs.surface.StoredStrings.{uninterned_store_bytes,
 ghost use Rattle.cweb_store.specs.surface.StoredStrings.{stored_strings};
 ghost use Rattle.cweb_store.specs.inner.Next.{IsNextNumber, is_name_use};
 
-use crate::parts::closed::ClosedParts;
 use crate::parts::Part;
+use crate::parts::closed::ClosedParts;
 use crate::replacements::{Replacements, last_places};
 use crate::store::answers::Answers;
 use crate::tokens::Token;
@@ -137,7 +137,8 @@ impl Store {
         ensures { option_map (λ n. n.text) (slice_get (spec.names self.now.occurrences) name.0)
             ≡ Some result.now }
     {
-        self.strings.string(self.answers.firsts[name.0 as usize] as usize)
+        let first = self.answers.firsts[name.0 as usize];
+        self.strings.string(first as usize)
     }
 
     /// The bytes of an occurrence. For an abbreviation, these are its prefix without the dots.

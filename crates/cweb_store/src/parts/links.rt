@@ -53,12 +53,7 @@ impl Heads {
     }
 
     /// Prepends a part to `after` others. Returns how many of them are before the next one of its group.
-    fn put(
-        &mut self,
-        resolutions: &[Result<NameId, NameKind>],
-        kind: PartKind,
-        after: u32,
-    ) -> u32
+    fn put(&mut self, resolutions: &[Result<NameId, NameKind>], kind: PartKind, after: u32) -> u32
         requires known { AreWithin resolutions.now (length self.old.names.items) }
         requires few { after < too_many }
         ensures { IsPut resolutions.now kind after self.old result self.new }
@@ -67,7 +62,10 @@ impl Heads {
             PartKind::Unnamed => after.saturating_sub(replace(&mut self.program, after + 1)),
             PartKind::Macro => after.saturating_sub(replace(&mut self.macros, after + 1)),
             PartKind::Named(name) => match resolved_at(resolutions, name.0 as usize) {
-                Some(id) => after.saturating_sub(replace(&mut self.names[id.0 as usize], after + 1)),
+                Some(id) => after.saturating_sub(replace(
+                    &mut self.names[id.0 as usize],
+                    after + 1,
+                )),
                 None => 0,
             },
         }
