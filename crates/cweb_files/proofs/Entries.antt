@@ -97,7 +97,8 @@ finds_more entries i e name found lt is so_far b test =
     )
     finds_one false more same = still found so_far
       where
-        still : (found : Option MemoryReader) → Finds (contents_read (contents_in_entries (take i entries)) entries) name
+        still : (found : Option MemoryReader) → Finds (contents_read (contents_in_entries
+            (take i entries)) entries) name
             found → Finds (contents_read (contents_in_entries (take (i + 1) entries)) entries) name found
         still None none = more ∙ none
         still (Some reader) some = (more ∙ some.0, some.1)

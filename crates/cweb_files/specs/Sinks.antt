@@ -10,7 +10,8 @@ pub record Beside : Type 0 where
   pub draft : Option (List ℕ)
   pub refused : Option Refused
 
--- The bytes written so far, which are those of the draft, and what is beside them. Calls leave no bytes without a draft.
+-- The bytes written so far, which are those of the draft, and what is beside them. A call that leaves no draft leaves no
+-- bytes.
 pub record SinkContents : Type 0 where
   pub bytes : List ℕ
   pub beside : Beside

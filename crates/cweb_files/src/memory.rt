@@ -69,7 +69,8 @@ impl Shelf for MemoryShelf {
     fn fetch(&mut self, name: &str) -> Result<Option<MemoryReader>, AllocError>
         // It allocates nothing.
         ensures ok { IsOk result }
-        ensures found { Observed (shelf_model self.old) (λ seen. IfOk result (Finds seen name.now)) }
+        ensures found { Observed (shelf_model self.old) (λ seen.
+            IfOk result (Finds seen name.now)) }
         ensures is_open { IfOk result (λ found. IfSome found (IsReaderOpen self.new)) }
         ensures same { self.new ≡ self.old }
     {

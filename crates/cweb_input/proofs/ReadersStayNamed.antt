@@ -48,7 +48,8 @@ module _ {R : Type 0} (opened_as : R → List ℕ) (names : List (List ℕ)) whe
   change_more more slot known is = slot_more more slot known is
 
 -- A slot of the stack is replaced.
-module _ {R A : Type 0} (old new : ShelfModel R) (result : Result A Stop) (texts : List (Option (OpenSource R))) (at : ℕ)
+module _ {R A : Type 0} (old new : ShelfModel R) (result : Result A Stop) (texts : List (Option (OpenSource R)))
+    (at : ℕ)
     (d : Option (OpenSource R)) (within : at < length texts) where
   pub names_set : (slot : Option (OpenSource R)) → KeepsReaderName old new (get_or texts at d) slot result
       → KeepsReaderNames old new texts (set texts at slot) result
@@ -88,7 +89,8 @@ pub line_blames : {R : Type 0} (A : Type 0) (fault : LineFault) (stop : Stop) (f
     (old new : ShelfModel R) (name : FileId → List ℕ) → stop ≡ stop_for fault file
     → new ≡ after_reading {A = A} reader (Err fault) old
     → failed_read reader old ≡ blaming (name file) old → new ≡ shelf_after name stop old
-line_blames A Read stop file reader old new name is read named = read ∙ named ∙ sym (ap (λ s. shelf_after name s old) is)
+line_blames A Read stop file reader old new name is read named = read ∙ named
+    ∙ sym (ap (λ s. shelf_after name s old) is)
 line_blames A _ stop file reader old new name is read named = read ∙ sym (ap (λ s. shelf_after name s old) is)
 
 nones : {R : Type 0} (opened_as : R → List ℕ) (names : List (List ℕ)) (n place : ℕ) → IsReaderNamed opened_as names

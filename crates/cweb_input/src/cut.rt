@@ -101,7 +101,8 @@ fn lines_end(bytes: &[u8]) -> usize
 // Reads into the buffer if it is empty.
 fn refill<S: Shelf>(shelf: &mut S, source: &mut Source<S::R>) -> Result<(), LineFault>
     requires count { (S.model shelf.old).failed + 1 < 2 ^ 64 }
-    ensures reads { ReadsSource (S.model shelf.old) (S.model shelf.new) source.old source.new result }
+    ensures reads { ReadsSource (S.model shelf.old) (S.model shelf.new)
+        source.old source.new result }
     ensures read { IsErrOf result LineFault.TooLong → ⊥ }
     ensures needed { IsErrOf result LineFault.Read → source.old.start ≡ source.old.end }
     ensures kept { source.old.start < source.old.end → source.new ≡ source.old }
@@ -132,7 +133,8 @@ pub fn next_line<S: Shelf>(
     line: &mut Vec<u8>,
 ) -> Result<LineTermination, LineFault>
     requires { (S.model shelf.old).failed + 1 < 2 ^ 64 }
-    ensures reads { ReadsSource (S.model shelf.old) (S.model shelf.new) source.old source.new result }
+    ensures reads { ReadsSource (S.model shelf.old) (S.model shelf.new)
+        source.old source.new result }
     ensures taken { Observed (S.model shelf.old) (λ seen.
         IfOk result (λ taken. TakesRawLine (bytes_left seen.left source.old) taken line.new.items
         (bytes_left seen.left source.new))) }

@@ -50,7 +50,8 @@ module _ (all now : OldSide) (so_far : Replaced) (old mid : SoFar) (r : Replaces
   yields_in : (begin : Place) (later : List Event) (new : SoFar) → new ≡ mid
       → EmitsLines [] old new (change_events begin all ++ later) (now.events ++ after begin later)
   yields_in begin later new same = subst (λ (es : List Event).
-      EmitsLines [] old new es (now.events ++ after begin later)) (sym (append_assoc all.events (map fault (closing_faults begin all.ended all.ran_out all.unequal)) later))
+      EmitsLines [] old new es (now.events ++ after begin later)) (sym (append_assoc all.events (map fault
+      (closing_faults begin all.ended all.ran_out all.unequal)) later))
       (yields_more (after begin later) (rw same r.yields))
 
   stops_at : (stop : Stop) (new : SoFar) → new ≡ mid → (line : SourceLine) (more : List Event)
@@ -60,7 +61,8 @@ module _ (all now : OldSide) (so_far : Replaced) (old mid : SoFar) (r : Replaces
     line = line;
     later = more ++ after begin later;
     yields = subst (λ (es : List Event).
-        EmitsLines [] old new (change_events begin all ++ later) (es ++ after begin later)) first (yields_in begin later new same);
+        EmitsLines [] old new (change_events begin all ++ later) (es
+        ++ after begin later)) first (yields_in begin later new same);
     why = rw same why;
   }
 

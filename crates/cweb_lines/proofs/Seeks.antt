@@ -106,7 +106,8 @@ seeks_ended all lines begin old mid seeks none new faults names count stage done
     let are = ap (λ ls. (sought ls begin).events) none ∙ sought_none begin in
     record {
       yields = yields_both [] [] old mid new _ _ _ seeks.yields (subst (λ (es : List Event).
-          EmitsLines [] mid new es []) (append-nil _ ∙ sym are) (reports (reported_faults last.events) mid new [] faults names count));
+          EmitsLines [] mid new es []) (append-nil _ ∙ sym are) (reports
+          (reported_faults last.events) mid new [] faults names count));
       outside = subst IsOutside (sym done) tt;
       entry = simp (done, seeks.entry, none, (none_found begin).0);
       rest = simp (done, seeks.rest, none, (none_found begin).1);

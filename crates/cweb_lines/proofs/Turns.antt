@@ -45,7 +45,8 @@ module _ {R : Type 0} (t : List ℕ → Option (List ℕ)) (l : R
       (stopped_more stop _ new found.events after_search
       (reads_next _ _ _ _ _ (above_first l 0 run.stack [] tt)) stopped)
 
-  pub sought_yields : (run' : MergeState R) → run'.inputs ≡ run.inputs → run'.stack ≡ run.stack → run'.names ≡ run.names → Searched found (so_far_of run)
+  pub sought_yields : (run' : MergeState R) → run'.inputs ≡ run.inputs → run'.stack ≡ run.stack
+      → run'.names ≡ run.names → Searched found (so_far_of run)
       (so_far_of run') run'.stage run'.first.items (change_lines l run')
       → EmitsLines [] (so_far_of run) (so_far_of run') (events_to_come t l run) (events_to_come t l run')
   sought_yields run' inputs stack names ends =
@@ -165,4 +166,5 @@ module _ {R : Type 0} (t : List ℕ → Option (List ℕ)) (l : R → List ℕ) 
         ∙ (λ i. later_old (world_in t (inputs i)) (length (opened_file_names (names i))) at.depth begin)) in
         yields_both [] [] (so_far_of old) (so_far_of run) (so_far_of new) _ _ _ one
         (subst (λ (es : List Event).
-        EmitsLines [] (so_far_of run) (so_far_of new) (change_events begin side ++ later) es) same (yields_more later changed.yields))
+        EmitsLines [] (so_far_of run) (so_far_of new) (change_events begin side
+        ++ later) es) same (yields_more later changed.yields))

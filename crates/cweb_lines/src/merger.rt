@@ -59,7 +59,8 @@ impl<S: Shelf> Merger<S> {
             (web_at seen.texts web.now (option_copied second.entry))
             (change_at seen.texts (option_copied change.entry))
             (so_far merger) (to_come seen merger))) }
-        ensures stops { Observed (S.model shelf.old) (λ seen. IfErr result (λ stop. StopsAtStart stop
+        ensures stops { Observed (S.model shelf.old) (λ seen.
+            IfErr result (λ stop. StopsAtStart stop
             (web_at seen.texts web.now (option_copied second.entry))
             (change_at seen.texts (option_copied change.entry)))) }
         ensures readers { Observed (S.model shelf.old) (λ seen.

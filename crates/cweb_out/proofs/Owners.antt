@@ -104,7 +104,8 @@ pub OnTop-first : {w : Stored} {f : Frame} → root_list w f.owner ≡ suffix w 
 OnTop-first {w} {f} l i b =
     record { below = tt; owned = record { within = i; yielded = []; list = l; ends = b }; lower = within f.owner b }
   where
-    within : (o : Option NameId) → list_all (ends_below w (names w)) (uses w (root_list w o)) ≡ true → rank w o < names w + 1
+    within : (o : Option NameId) → list_all (ends_below w (names w)) (uses w (root_list w o)) ≡ true
+        → rank w o < names w + 1
     within None h = omega arith
     within (Some n) h = let le = least-le (λ k. ends_below w (suc k) n) (names w) (names w) h in omega (arith, le)
 

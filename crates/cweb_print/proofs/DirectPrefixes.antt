@@ -36,7 +36,8 @@ passed_more p ts last t l old mid new passed h appended =
     record {
       direct = direct-push ts t passed.direct (ap is_some h);
       moves = λ done is. ap left_after_tokens (sym (append_assoc done ts (t ∷ []))) ∙ leaves-push (done ++ ts) t
-          ∙ ap (λ (left : Left). left_after_token left t) (passed.moves done is) ∙ leaves-direct (class_after_edge last) t l h;
+          ∙ ap (λ (left : Left). left_after_token left t) (passed.moves done is)
+          ∙ leaves-direct (class_after_edge last) t l h;
       prints = λ done is.
           let so_far = passed.prints done is in
           record {

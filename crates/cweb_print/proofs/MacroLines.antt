@@ -82,7 +82,8 @@ tokens_at by ts a n b t left le lt within is now =
     )
 
 -- Of a macro's tokens, none was printed, or one more.
-pub none_added : (by : Class → Token → List ℕ) (ts : List Token) (a : ℕ) → [] ≡ all_added by at_start (slice_range ts a a)
+pub none_added : (by : Class → Token → List ℕ) (ts : List Token) (a : ℕ)
+    → [] ≡ all_added by at_start (slice_range ts a a)
 none_added by ts a = ap (all_added by at_start) (sym (range-none ts a a (omega arith)))
 
 pub one_added : (by : Class → Token → List ℕ) (ts : List Token) (a n : ℕ) (t : Token) (left : Left) → a ≤ n

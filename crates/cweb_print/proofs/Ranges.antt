@@ -14,7 +14,8 @@ pub slice_range-first : (ts : List Token) (a b : ℕ) (t : Token) → a < b → 
 slice_range-first ts a b t h k e = grind (arith, drop-cons ts a t, add-one a)
 
 -- The token at an index.
-pub there : (w : Stored) (n : ℕ) → n < length (all_tokens w.parts) → slice_get (all_tokens w.parts) n ≡ Some (token_at w n)
+pub there : (w : Stored) (n : ℕ) → n < length (all_tokens w.parts)
+    → slice_get (all_tokens w.parts) n ≡ Some (token_at w n)
 there w n within = slice_get-get_or (all_tokens w.parts) n Blank within
 
 pub at_index : (w : Stored) (n : ℕ) (t : Token) → slice_get (all_tokens w.parts) n ≡ Some t → token_at w n ≡ t

@@ -19,7 +19,8 @@ comment_at_line t more e two ends =
     let look = look_in_comment (begins (codes "*/")) 2 in
     ap (λ (r : Reach). rule_match (Comment r.how) (2 + reach_size r))
     (ap reach_of_comment (drop-append-le 2 t more two)
-    ∙ ends_in_line look (drop 2 t) more (all_some look (comment-units (begins (codes "*/")) 2)) comment_local e (λ h. cc) ends)
+    ∙ ends_in_line look (drop 2 t) more (all_some look (comment-units (begins (codes "*/")) 2)) comment_local e
+    (λ h. cc) ends)
 
 line_comment-stops : (more : List ℕ) → AtLineEnd more
     → reach_of_line_comment more ≡ record { units = []; close = 0; how = Closed }

@@ -78,7 +78,8 @@ literal-stops : (quote : ℕ) (more : List ℕ) → (quote == 10) ≡ false → 
     → reach_of_literal quote more ≡ record { units = []; close = 0; how = Cut }
 literal-stops quote [] h e = refl
 literal-stops quote (b ∷ more) h e = ap (λ n. reach_of_literal quote (n ∷ more)) e
-    ∙ ap (λ v. at_start (look_in_literal quote) (if v && true then Ends 1 Closed else Ends 0 Cut) (10 ∷ more) Cut more) h
+    ∙ ap (λ v. at_start (look_in_literal quote) (if v && true then Ends 1 Closed else Ends 0 Cut)
+    (10 ∷ more) Cut more) h
 
 abbrev pub literal_with : ℕ → ℕ → List ℕ → RuleMatch
 literal_with n quote t = quoted_match (n + 1) (reach_of_literal quote (drop (n + 1) t)) t

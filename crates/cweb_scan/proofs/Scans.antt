@@ -77,7 +77,8 @@ of_taken : (pending : ReaderModel) (lines : List Line)
 of_taken pending lines reads = ap (λ (r : Reading). scanned_of r.state) (reads [] ∙ ap read_lines (append-nil lines))
 
 pub all_within : {R : Type 0} (shelf : ShelfModel R) (old so new : SoFar) (all now : ShelfContents R → List Event)
-    (pending : ReaderModel) (s : Scanned) → HasTaken shelf old so all now pending → s ≡ scanned_of (read_after pending []).state
+    (pending : ReaderModel) (s : Scanned) → HasTaken shelf old so all now pending
+    → s ≡ scanned_of (read_after pending []).state
     → length so.names ≤ length new.names → so.count.bytes ≤ BYTES → so.count.lines ≤ LINES → ScansWithinLimits new s
 all_within shelf old so new all now pending s taken is names few_bytes few_lines =
     let same : s ≡ scanned taken.lines = is ∙ of_taken pending taken.lines taken.read_is in

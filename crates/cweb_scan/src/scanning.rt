@@ -84,7 +84,8 @@ fn take_lines<S: Shelf>(
     requires fresh { reader.old ≡ new_reader }
     ensures reads { ReadsShelf (S.model shelf.old) (S.model shelf.new) result }
     ensures grows { Grows (so_far merger.old) (so_far merger.new) }
-    ensures scans { Observed (S.model shelf.old) (λ seen. OnOk result (Scans (scanned_after reader.new)
+    ensures scans { Observed (S.model shelf.old) (λ seen.
+        OnOk result (Scans (scanned_after reader.new)
         (so_far merger.old) (so_far merger.new) (to_come seen merger.old))) }
     ensures within { OnOk result
         (ScansWithinLimits (so_far merger.new) (scanned_after reader.new)) }
@@ -122,7 +123,8 @@ pub fn scan<S: Shelf>(alloc: Global, merger: &mut Merger<S>, shelf: &mut S) -> R
     ensures grows { Grows (so_far merger.old) (so_far merger.new) }
 
     // All lines were scanned.
-    ensures scans { Observed (S.model shelf.old) (λ seen. IfOk result (λ made. Scans (scanned_model made)
+    ensures scans { Observed (S.model shelf.old) (λ seen.
+        IfOk result (λ made. Scans (scanned_model made)
         (so_far merger.old) (so_far merger.new) (to_come seen merger.old))) }
     ensures within { IfOk result
         (λ made. ScansWithinLimits (so_far merger.new) (scanned_model made)) }

@@ -46,7 +46,8 @@ next-is test ts part xs i m are count some here less =
     record {
       begins = low;
       within = omega (arith, less);
-      before = none-before test n (m - n) (drop n ts) (subst (BeginsFrom (n + (m - n))) (sym head) (omega (arith, low)));
+      before = none-before test n (m - n) (drop n ts) (subst (BeginsFrom (n + (m - n))) (sym head) (omega
+          (arith, low)));
       found = λ l. rw (place, ← get-drop ts n (m - n)) (first-passes test n m (m - n) (drop n ts) _ head place);
     }
 

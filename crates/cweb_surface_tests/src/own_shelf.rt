@@ -32,14 +32,14 @@ impl Shelf for OneShelf {
     type R = OneReader;
 
     ghost model = { λ shelf. record {
-        failed = 0;
-        contents = Some (record {
-            texts = λ other.
-                if bytes_eq (string_bytes shelf.name) other then Some shelf.text.items else None;
-            left = λ reader. drop reader.at shelf.text.items;
-            opened_as = λ _. string_bytes shelf.name;
-            blamed = [];
-        });
+      failed = 0;
+      contents = Some (record {
+        texts = λ other.
+            if bytes_eq (string_bytes shelf.name) other then Some shelf.text.items else None;
+        left = λ reader. drop reader.at shelf.text.items;
+        opened_as = λ _. string_bytes shelf.name;
+        blamed = [];
+      });
     } };
 
     fn fetch(&mut self, name: &str) -> Result<Option<OneReader>, AllocError> {

@@ -33,7 +33,8 @@ module _ {R : Type 0} where
 
   named : (stop : Stop) (names : List (List ℕ)) (old : ShelfModel R) {seen : ShelfContents R}
       → old.contents ≡ Some seen
-      → failed_reads (model_after (name_of_file names) stop old) ≡ shelf_after stop (subject names stop) (failed_reads old)
+      → failed_reads (model_after (name_of_file names) stop old) ≡ shelf_after stop (subject names stop)
+      (failed_reads old)
   named (ReadFault file) names old is =
       (λ i. failed_reads (model_after (name_of_file names) (ReadFault file)
       (record { failed = old.failed; contents = is i })))

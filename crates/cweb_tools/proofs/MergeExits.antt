@@ -118,7 +118,8 @@ module _ (world : World) (names : WebNames) (found : Option Found) (changes : Op
               course = merging first all;
               can = tt;
               is = λ again. sym (begun some);
-              ends = stops_so stop first opened all prints.prefix kind read (out_is stop prints.prefix out out' failed prints.is)
+              ends = stops_so stop first opened all prints.prefix kind read
+                  (out_is stop prints.prefix out out' failed prints.is)
                   (prints.breaks (at shelf out l)) logs answered;
             }
         | inr silent ↦

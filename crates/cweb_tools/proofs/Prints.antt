@@ -51,7 +51,8 @@ prints_prefix {files = files} {first = first} {printer = printer} {old = old} {n
     }
 
 -- One more token was printed.
-pub prints_more : {A E : Type 0} (x : A) {files : List (List ℕ)} {first : Expander} {mid now : Expander} {printer printer' : Printer}
+pub prints_more : {A E : Type 0} (x : A) {files : List (List ℕ)} {first : Expander} {mid now : Expander} {printer
+    printer' : Printer}
     {old new : SinkModel} (new' : SinkModel) {buffer : List ℕ} (buffer' : List ℕ) (t : Token)
     → PrintsSoFar files first mid printer old new buffer → StaysReady mid now
     → left_in mid ≡ t ∷ left mid.store.now now.frames.items → setting_of printer' ≡ setting_of printer

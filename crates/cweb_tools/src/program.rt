@@ -18,8 +18,8 @@ const INPUTS: &str = "CWEBINPUTS";
 pub fn read_args<E: Environment>(alloc: Global, env: &E) -> Result<Vec<String>, AllocError>
     ensures valid { (seen : Variables) → E.known env.now ≡ Some seen → All IsUtf8 seen.args →
         IfOk result (λ words. map string_bytes words.items ≡ seen.args) }
-    ensures invalid { (seen : Variables) → E.known env.now ≡ Some seen → (All IsUtf8 seen.args → ⊥) →
-        IfOk result (λ words. words.items ≡ []) }
+    ensures invalid { (seen : Variables) → E.known env.now ≡ Some seen →
+        (All IsUtf8 seen.args → ⊥) → IfOk result (λ words. words.items ≡ []) }
 {
     let mut words = Vec::new(alloc);
     'words: for index in 0..usize::MAX {

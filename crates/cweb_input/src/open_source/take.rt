@@ -76,10 +76,11 @@ fn take_trimmed<S: Shelf>(
     line: &mut Vec<u8>,
 ) -> Result<Option<usize>, LineFault>
     requires count { (S.model shelf.old).failed + 1 < 2 ^ 64 }
-    ensures reads { ReadsSource (S.model shelf.old) (S.model shelf.new) source.old source.new result }
+    ensures reads { ReadsSource (S.model shelf.old) (S.model shelf.new)
+        source.old source.new result }
     ensures taken { Observed (S.model shelf.old) (λ seen.
-        IfOk result (λ size. TakesTrimmedOrEnds (bytes_left seen.left source.old) size line.new.items
-        (bytes_left seen.left source.new))) }
+        IfOk result (λ size. TakesTrimmedOrEnds (bytes_left seen.left source.old) size
+        line.new.items (bytes_left seen.left source.new))) }
     ensures fails { FailsInLine (S.model shelf.old) source.old result }
     ensures line { IfOk result (λ size. OnSome size (IsOneLine line.new.items)) }
     ensures gains { IfOk result (λ size. IfSome size (λ n. length line.new.items ≤ n)) }
@@ -106,8 +107,8 @@ fn take_line<S: Shelf>(
 ) -> Result<Option<LineAt>, Stop>
     requires count { (S.model shelf.old).failed + 1 < 2 ^ 64 }
     requires number { text.old.line ≤ limits.old.lines }
-    ensures takes { TakesFromSlot (S.model shelf.old) (S.model shelf.new) (Some text.old) (Some text.new)
-        limits.old limits.new line.new.items result }
+    ensures takes { TakesFromSlot (S.model shelf.old) (S.model shelf.new)
+        (Some text.old) (Some text.new) limits.old limits.new line.new.items result }
     ensures names { IfErr result (λ stop. NamesFile text.old.file stop) }
 {
     let taken = match take_trimmed(shelf, &mut text.source, line) {

@@ -26,7 +26,8 @@ fn take_new<S: Shelf>(
     requires count { (S.model shelf.old).failed + 1 < 2 ^ 64 }
     requires changing { run.old.stage ≡ Stage.Changing change }
     requires below { run.old.stack.depth ≡ change.below }
-    ensures { TakesTurn (S.model shelf.old) (S.model shelf.new) run.old run.new line.new.items result }
+    ensures { TakesTurn (S.model shelf.old) (S.model shelf.new) run.old run.new
+        line.new.items result }
 {
     let taken = match take_change(shelf, run, line) {
         Ok(taken) => taken,
@@ -70,7 +71,8 @@ fn take_end<S: Shelf>(
     requires count { (S.model shelf.old).failed + 1 < 2 ^ 64 }
     requires settled { IsSettled run.old.stage }
     requires floor { run.old.stack.depth ≡ floor_of run.old.stage }
-    ensures { TakesTurn (S.model shelf.old) (S.model shelf.new) run.old run.new line.new.items result }
+    ensures { TakesTurn (S.model shelf.old) (S.model shelf.new) run.old run.new
+        line.new.items result }
 {
     match run.stage {
         Stage::Done | Stage::Seeking => Ok(Turn::Ended),
@@ -102,7 +104,8 @@ pub fn take_turn<S: Shelf>(
     line: &mut Vec<u8>,
 ) -> Result<Turn, Stop>
     requires count { (S.model shelf.old).failed + 1 < 2 ^ 64 }
-    ensures turn { TakesTurn (S.model shelf.old) (S.model shelf.new) run.old run.new line.new.items result }
+    ensures turn { TakesTurn (S.model shelf.old) (S.model shelf.new) run.old run.new
+        line.new.items result }
     ensures ended { NothingLeft run.old → (result ≡ Ok Turn.Ended) × (run.new ≡ run.old)
         × (shelf.new ≡ shelf.old) }
 {
@@ -126,7 +129,8 @@ fn take_settled<S: Shelf>(
 ) -> Result<Turn, Stop>
     requires count { (S.model shelf.old).failed + 1 < 2 ^ 64 }
     requires settled { IsSettled run.old.stage }
-    ensures { TakesTurn (S.model shelf.old) (S.model shelf.new) run.old run.new line.new.items result }
+    ensures { TakesTurn (S.model shelf.old) (S.model shelf.new) run.old run.new
+        line.new.items result }
 {
     let taken = match take_raw(shelf, run, line) {
         Ok(taken) => taken,

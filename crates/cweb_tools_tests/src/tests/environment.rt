@@ -16,9 +16,9 @@ struct FixedEnvironment {
 
 impl Environment for FixedEnvironment {
     ghost known = { λ env. Some (record {
-        args = map (λ word. word.items) env.words.items;
-        value = λ name. if bytes_eq name (codes "CWEBINPUTS")
-            then option_map (λ text. text.items) env.inputs else None;
+      args = map (λ word. word.items) env.words.items;
+      value = λ name. if bytes_eq name (codes "CWEBINPUTS")
+          then option_map (λ text. text.items) env.inputs else None;
     }) };
 
     fn argument(&self, alloc: Global, index: usize) -> Result<Option<Vec<u8>>, AllocError> {

@@ -19,7 +19,8 @@ lines-init g c = record {
   written = λ seen it. nothing_yet _ _ _;
 }
 
-quiet : (g : given.Over) (c : In-Ok g) → Quiet (g.S.Shelf.model c.args.shelf.now) (g.S.Shelf.model c.next_line.new.shelf) c.args.merger.now.run
+quiet : (g : given.Over) (c : In-Ok g) → Quiet (g.S.Shelf.model c.args.shelf.now)
+    (g.S.Shelf.model c.next_line.new.shelf) c.args.merger.now.run
     c.next_line.new.self.run
 quiet g c = reads_then c.lines.invariant.quiet (record {
   shelf = (c.in-Ok.ensures.blames c.lines.invariant.running).reads;
@@ -37,7 +38,8 @@ more g c seen it =
     let next = rw c.in-Some-next.is at (c.in-Ok.ensures.next seen (still_seen c.lines.invariant.quiet it)) in
     let line : Line = record { bytes = c.next_line.new.line.items; place = c.in-Some-next.field-0 } in
     let passes = c.pass_lines-passed.ensures.passes in
-    held_on _ _ _ _ _ _ _ (held _ _ _ _ _ _ (c.lines.invariant.written seen it) line _ _ next _ _ c.lines.invariant.empty
+    held_on _ _ _ _ _ _ _ (held _ _ _ _ _ _ (c.lines.invariant.written seen it) line _ _ next _ _
+    c.lines.invariant.empty
     (rw c.deref.ensures.value at c.in_default-append_line.ensures.ok)) passes.lines _ _
     (passes.yields seen.texts seen.left)
     _ passes.buffered passes.within

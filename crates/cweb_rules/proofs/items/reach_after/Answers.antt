@@ -35,7 +35,8 @@ units-preserved c =
           (reach_goes look Open c.in-Goes.unit rest
           (nonempty rest c.is_empty.result c.is_empty.ensures c.units-test.true) c.in-Goes.ensures.some
           (sym c.look.ensures.value ∙ c.in-Goes.is)
-          ∙ (λ i. later_by (sym c.min-step.ensures i) (reached (reach look Open (drop (sym c.min-step.ensures i) rest))))
+          ∙ (λ i. later_by (sym c.min-step.ensures i) (reached (reach look Open (drop
+          (sym c.min-step.ensures i) rest))))
           ∙ ap (λ (u : List ℕ). later_by step (reached (reach look Open u))) (sym c.split_at-in-Goes.ensures.back)
           ∙ ap (λ (r : Reached). later_by step r) (reach_from c.args.item Open after _ plain
           c.plain_len-plain.ensures.value c.split_at-in-Goes-2.ensures.back)

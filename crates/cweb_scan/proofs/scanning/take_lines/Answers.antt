@@ -52,7 +52,8 @@ returns-in-Err-take_borrowed-clause-stops g c = λ seen it.
 pub returns-in-Err-take_borrowed-clause-blamed : goal.returns-in-Err-take_borrowed-clause-blamed
 returns-in-Err-take_borrowed-clause-blamed g c = λ seen it known.
     let inv = c.lines.invariant in
-    unread {A = Unit {0}} (Err c.halt-in-Err-take_borrowed.result) _ ((c.in-Ok.ensures.blames inv.running).reads.1 ∙ inv.same)
+    unread {A = Unit {0}} (Err c.halt-in-Err-take_borrowed.result) _ ((c.in-Ok.ensures.blames inv.running).reads.1
+    ∙ inv.same)
     (c.halt-in-Err-take_borrowed.ensures.stop
     (c.in-Err-take_borrowed.ensures.borrowed.stopped ∙ c.in-Ok.ensures.leaves.running))
 
@@ -82,7 +83,8 @@ pub returns-in-Err-take_borrowed-clause-reads : goal.returns-in-Err-take_borrowe
 returns-in-Err-take_borrowed-clause-reads g c =
     let inv = c.lines.invariant in (
       λ file. [],
-      unread {A = Unit {0}} (Err c.halt-in-Err-take_borrowed.result) _ ((c.in-Ok.ensures.blames inv.running).reads.1 ∙ inv.same)
+      unread {A = Unit {0}} (Err c.halt-in-Err-take_borrowed.result) _ ((c.in-Ok.ensures.blames inv.running).reads.1
+          ∙ inv.same)
           (c.halt-in-Err-take_borrowed.ensures.stop
           (c.in-Err-take_borrowed.ensures.borrowed.stopped ∙ c.in-Ok.ensures.leaves.running)),
     )

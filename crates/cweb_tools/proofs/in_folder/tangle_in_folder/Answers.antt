@@ -15,7 +15,11 @@ use Rattle.cweb_tools.proofs.in_folder.tangle_in_folder.Goals as goal
 pub scan_web-requires : goal.scan_web-requires
 scan_web-requires g c = (
   omega arith,
-  (omega (arith, ap (λ (m : ShelfModel _). m.failed) c.noting-shelf.ensures.model), omega (arith, log_counted c.in-Ok.ensures.banner, c.requires.count)),
+  (
+    omega (arith, ap (λ (m : ShelfModel _). m.failed) c.noting-shelf.ensures.model),
+    omega
+        (arith, log_counted c.in-Ok.ensures.banner, c.requires.count),
+  ),
 )
 
 pub tangle_web-status-requires-clause-counts : goal.tangle_web-status-requires-clause-counts
@@ -38,7 +42,8 @@ returns-in-Err-clause-promises g c =
     unread_in g.F.FileSystem c.args.fs inputs (options_in c.args.words.now)
     (bins_model g.F.FileSystem c.new-in-Err.result) log (g.L.Sink.model c.begin_tangle.new.log) c.in-Err.status
     bins.empty
-    (promised _ _ (c.in-Err.ensures.ends (world_of_shelf (new_shelf g.F.FileSystem c.args.fs) inputs) (failed_reads (new_shelf g.F.FileSystem c.args.fs))
+    (promised _ _ (c.in-Err.ensures.ends (world_of_shelf (new_shelf g.F.FileSystem c.args.fs) inputs) (failed_reads
+    (new_shelf g.F.FileSystem c.args.fs))
     (bins_model g.F.FileSystem c.new-in-Err.result)))
 
 pub returns-in-Err-clause-files : goal.returns-in-Err-clause-files

@@ -31,7 +31,8 @@ returns-in-Err-scan-clause-stops g c =
     left_by (Unit {0}) stop (so_far c.scan.new.merger).names old _ (rw begun.same at (read.reads begun.running))
     (λ seen it. rw begun.same
     at (read.blamed seen (ap (λ m. m.contents) begun.same ∙ it) (begun.readers seen it) begun.running)) in
-    λ later out. read_stops later args world _ _ (failed_reads old) (failed_reads (g.S.Shelf.model c.scan.new.shelf)) out
+    λ later out. read_stops later args world _ _ (failed_reads old) (failed_reads
+    (g.S.Shelf.model c.scan.new.shelf)) out
     (g.L.Sink.model c.args.log.now) _ _ _ _
     (λ some. rw (c.as_str.ensures.value, c.second.ensures, c.change.ensures, c.folder.ensures)
     at (begun.begins (contents_of old) (observed old some))) stop _ (g.L.Sink.model c.log_stop-in-Err-scan.new.log)

@@ -63,5 +63,6 @@ returns-clause-promises g c =
     (c.in-Err-scan_web.ensures.stops (tangle_later args.shown) (g.B.Sink.model c.args.bins.now))))
 
 pub returns-clause-freely : goal.returns-clause-freely
-returns-clause-freely g c = tangled_freely (world_of (contents_of (g.S.Shelf.model c.args.shelf.now)).texts (option_copied c.args.inputs))
+returns-clause-freely g c = tangled_freely (world_of (contents_of (g.S.Shelf.model c.args.shelf.now)).texts
+    (option_copied c.args.inputs))
     (options_in c.args.words.now) (returns-clause-promises g c)

@@ -12,7 +12,8 @@ targets_of words = targets_by (map (λ (word : Bor (List ℕ)). word.now) words)
 
 pub returns-in-Err-clause-promises : goal.returns-in-Err-clause-promises
 returns-in-Err-clause-promises g c = promised _ _ (words_end _ (depend_acts _) refl _ _
-    (λ one is course can. depend_judges _ one course can) c.in-Err.stop (failed_reads (g.S.Shelf.model c.args.shelf.now))
+    (λ one is course can. depend_judges _ one course can) c.in-Err.stop (failed_reads
+    (g.S.Shelf.model c.args.shelf.now))
     (g.W.Sink.model c.args.out.now) _ c.in-Err.ensures.stops (λ is. c.in-Err.ensures.usage.0 (ap Err is))
     (λ none. same_stop _ _ _ refl (c.in-Err.ensures.usage.1 none)) c.log_stop.ensures.logs c.log_stop.ensures.status)
 
@@ -51,5 +52,6 @@ returns-clause-promises g c =
     (g.W.Sink.model c.args.out.now))))
 
 pub returns-clause-freely : goal.returns-clause-freely
-returns-clause-freely g c = tangled_freely (world_of (contents_of (g.S.Shelf.model c.args.shelf.now)).texts (option_copied c.args.inputs))
+returns-clause-freely g c = tangled_freely (world_of (contents_of (g.S.Shelf.model c.args.shelf.now)).texts
+    (option_copied c.args.inputs))
     (options_in c.args.words.now) (returns-clause-promises g c)

@@ -27,7 +27,8 @@ returns-in-Err g c =
     record {
       takes = record {
         reads = takes.reads;
-        named = names_set {A = Option LineAt} (g.S.Shelf.model c.args.shelf.now) (g.S.Shelf.model c.take_from.new.shelf) (Err c.in-Err.stop) stack.texts _ slot within
+        named = names_set {A = Option LineAt} (g.S.Shelf.model c.args.shelf.now)
+            (g.S.Shelf.model c.take_from.new.shelf) (Err c.in-Err.stop) stack.texts _ slot within
             _ takes.named;
         order = keeps_stack stack _ _ c.take_from.new.slot _ refl
             (omega (arith, c.requires.numbers, takes.answers.counted.0)) takes.text.number
@@ -62,7 +63,8 @@ returns-in_default g c =
     record {
       takes = record {
         reads = takes.reads;
-        named = rw closed (names_set {A = Option LineAt} (g.S.Shelf.model c.args.shelf.now) (g.S.Shelf.model c.take_from.new.shelf)
+        named = rw closed (names_set {A = Option LineAt} (g.S.Shelf.model c.args.shelf.now)
+            (g.S.Shelf.model c.take_from.new.shelf)
             (Ok c.in-Ok.taken) stack.texts _ slot within None
             (λ seen is names each. (tt, (takes.named seen is names each).1)));
         order = keeps_stack stack _ _ None _ closed (omega (arith, c.requires.numbers, counted.0)) (omega arith)
@@ -97,7 +99,8 @@ returns g c =
     record {
       takes = record {
         reads = takes.reads;
-        named = names_set {A = Option LineAt} (g.S.Shelf.model c.args.shelf.now) (g.S.Shelf.model c.take_from.new.shelf) (Ok c.in-Ok.taken) stack.texts _ slot within
+        named = names_set {A = Option LineAt} (g.S.Shelf.model c.args.shelf.now)
+            (g.S.Shelf.model c.take_from.new.shelf) (Ok c.in-Ok.taken) stack.texts _ slot within
             _ takes.named;
         order = keeps_stack stack _ _ c.take_from.new.slot _ refl (omega (arith, c.requires.numbers, counted))
             takes.text.number (omega (arith, takes.text.file, file)) c.requires.deep deep.0;

@@ -19,7 +19,8 @@ returns-in-Err-clause-takes g c =
       );
       taken = λ seen is. tt;
       stops = λ seen is. line_stops c.in-Err.fault _ (bytes_left seen.left c.args.text.now.source) c.args.text.now.file
-          (c.args.text.now.line + 1) _ c.stop_of.ensures (λ long. c.in-Err.ensures.fails.too_long seen is (ap Err long));
+          (c.args.text.now.line + 1) _ c.stop_of.ensures (λ long. c.in-Err.ensures.fails.too_long seen is
+          (ap Err long));
       needed = line_needs c.in-Err.fault _ c.args.text.now c.stop_of.ensures
           (λ is. c.in-Err.ensures.fails.needed (ap Err is));
       named = λ seen is names named. (

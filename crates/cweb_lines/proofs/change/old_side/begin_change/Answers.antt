@@ -9,7 +9,8 @@ returns-in-Err-clause-reported g c = λ seen it. prefix_more _ (c.in-Err.ensures
 
 pub returns-in-Err-close-clause-reported : goal.returns-in-Err-close-clause-reported
 returns-in-Err-close-clause-reported g c = λ seen it. closes_some c.args.begin _ c.in-Ok.replaced _ _ _ _ _
-    (c.in-Ok.ensures.replaced seen it) c.in-Err-close.ensures.err (ap opened_file_names c.in-Err-close.ensures.only.names)
+    (c.in-Ok.ensures.replaced seen it) c.in-Err-close.ensures.err
+    (ap opened_file_names c.in-Err-close.ensures.only.names)
 
 pub returns-clause-changed : goal.returns-clause-changed
 returns-clause-changed g c = λ seen it. record {

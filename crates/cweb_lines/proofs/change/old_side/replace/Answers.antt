@@ -9,7 +9,8 @@ use Rattle.cweb_lines.proofs.change.old_side.replace.Given as given
 use Rattle.cweb_lines.proofs.change.old_side.replace.Goals as goal
 use Rattle.cweb_lines.proofs.change.old_side.replace.Goals.{In-Ok}
 
-quiet : (g : given.Over) (c : In-Ok g) → Quiet (g.S.Shelf.model c.args.shelf.now) (g.S.Shelf.model c.take_change.new.shelf) c.args.run.now
+quiet : (g : given.Over) (c : In-Ok g) → Quiet (g.S.Shelf.model c.args.shelf.now)
+    (g.S.Shelf.model c.take_change.new.shelf) c.args.run.now
     c.take_change.new.run
 quiet g c = reads_then c.lines.invariant.quiet c.in-Ok.ensures.takes.reads
 

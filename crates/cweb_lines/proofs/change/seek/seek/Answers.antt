@@ -10,7 +10,8 @@ use Rattle.cweb_lines.proofs.change.seek.seek.Given as given
 use Rattle.cweb_lines.proofs.change.seek.seek.Goals as goal
 use Rattle.cweb_lines.proofs.change.seek.seek.Goals.{In-Ok, In-Ok-look_at, In-Err-look_at}
 
-quiet : (g : given.Over) (c : In-Ok g) → Quiet (g.S.Shelf.model c.args.shelf.now) (g.S.Shelf.model c.take_change.new.shelf) c.args.run.now
+quiet : (g : given.Over) (c : In-Ok g) → Quiet (g.S.Shelf.model c.args.shelf.now)
+    (g.S.Shelf.model c.take_change.new.shelf) c.args.run.now
     c.take_change.new.run
 quiet g c = reads_then c.lines.invariant.quiet c.in-Ok.ensures.takes.reads
 
@@ -22,7 +23,8 @@ lines-init g c = record {
   seeks = search rules;
 }
 
-looked : (g : given.Over) (c : In-Ok-look_at g) → Quiet (g.S.Shelf.model c.args.shelf.now) (g.S.Shelf.model c.take_change.new.shelf)
+looked : (g : given.Over) (c : In-Ok-look_at g) → Quiet (g.S.Shelf.model c.args.shelf.now)
+    (g.S.Shelf.model c.take_change.new.shelf)
     c.args.run.now c.look_at.new.run
 looked g c = reads_then (quiet g (goal.at.In-Ok-look_at g c).In-Ok) (reads_reported _ c.in-Ok-look_at.ensures.only
     c.in-Ok-look_at.ensures.looks.faults tt)
@@ -97,7 +99,8 @@ returns-in-Entry-clause-searched g c = λ seen it.
     let taken = rw c.in-Some.is at (c.in-Ok.ensures.taken seen (still_seen c.lines.invariant.quiet it)) in
     let found = seeks_found (sought (change_lines seen.left c.args.run.now) None)
     (change_lines seen.left c.lines.run) c.lines.begin
-    (so_far_of c.args.run.now) (so_far_of c.lines.run) (c.lines.invariant.seeks seen it) (so_far_of c.take_change.new.run)
+    (so_far_of c.args.run.now) (so_far_of c.lines.run) (c.lines.invariant.seeks seen it)
+    (so_far_of c.take_change.new.run)
     (so_far_of c.look_at.new.run) c.take_change.new.line.items c.in-Some.at.place taken.0 _ taken.1
     (took_faults c.in-Ok.ensures.takes.only) (took_names c.in-Ok.ensures.takes.only)
     (ap opened_file_names c.in-Ok-look_at.ensures.only.names)

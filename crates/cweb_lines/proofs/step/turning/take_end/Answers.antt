@@ -15,7 +15,8 @@ returns-in_default g c = record {
       let none = c.requires.floor ∙ ap floor_of c.in-Waiting.is in
       yields_fault (so_far_of c.args.run.now) (so_far_of c.report.new.self) _ _
       (ap counters_of c.in_default.ensures.only.limits)
-      (at_place NoMatch c.in-Waiting.begin) (no_match seen.texts seen.left c.args.run.now c.in-Waiting.begin c.in-Waiting.is none ∙ ap (λ (es : List Event). fault
+      (at_place NoMatch c.in-Waiting.begin) (no_match seen.texts seen.left c.args.run.now c.in-Waiting.begin
+      c.in-Waiting.is none ∙ ap (λ (es : List Event). fault
       (at_place NoMatch c.in-Waiting.begin) ∷ es) (sym (nothing_above (world_in seen.texts
       c.report.new.self.inputs) seen.left c.report.new.self.stack (length (opened_file_names
       c.report.new.self.names)) (ap (λ s. s.depth) c.in_default.ensures.only.stack ∙ none))))

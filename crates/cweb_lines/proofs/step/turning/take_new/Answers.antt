@@ -36,7 +36,8 @@ returns-in_default g c =
       yields = λ seen it.
           let taken = rw c.in_default.is at (c.in-Ok.ensures.taken seen it) in
           let counted = rw c.in_default.is at took.answers.counted in
-          new_ended seen.texts seen.left c.requires.changing c.requires.below took.only c.in-Ok.ensures.stack c.report.new.self report.only taken.0
+          new_ended seen.texts seen.left c.requires.changing c.requires.below took.only c.in-Ok.ensures.stack
+          c.report.new.self report.only taken.0
           (ap counters_of report.only.limits ∙ (λ i. record { lines = counted.0 i; bytes = counted.1 i }))
           report.reported;
       stops = λ seen it. tt;
@@ -54,7 +55,8 @@ returns-in-None g c =
           let test = ap change_code (sym c.deref.ensures.value) ∙ sym c.change_code.ensures ∙ c.in-None.is in
           IfOk-map c.emit_or_obey.result (λ turn yields. yields_took _ (so_far_of c.args.run.now) _ _
           c.take_change.new.line.items c.in-Some.at.place taken.0 _ _ _ (took_faults took.only) (took_names took.only)
-          (new_first seen.texts seen.left c.requires.changing c.requires.below took.only c.in-Ok.ensures.stack c.take_change.new.line.items c.in-Some.at.place taken.0 taken.1 test)
+          (new_first seen.texts seen.left c.requires.changing c.requires.below took.only c.in-Ok.ensures.stack
+          c.take_change.new.line.items c.in-Some.at.place taken.0 taken.1 test)
           (yields taken.0.line taken.0.is))
           (rw c.deref-in-None.ensures.value at (obeys.yields seen (still_seen took.reads it)));
       stops = λ seen it. stops_unreported c.emit_or_obey.result _ (so_far_of c.take_change.new.run) _ _
@@ -71,7 +73,8 @@ returns-then-eq g c =
           let taken = rw c.in-Some.is at (c.in-Ok.ensures.taken seen it) in
           let test = ap change_code (sym c.deref.ensures.value) ∙ sym c.change_code.ensures ∙ c.in-Some-change_code.is
           ∙ ap Some (is_end c.in-Some-change_code.code (sym c.eq.ensures ∙ c.if-eq.true)) in
-          new_side_ended seen.texts seen.left c.requires.changing c.requires.below took.only c.in-Ok.ensures.stack c.take_change.new.line.items
+          new_side_ended seen.texts seen.left c.requires.changing c.requires.below took.only c.in-Ok.ensures.stack
+          c.take_change.new.line.items
           c.in-Some.at.place taken.0 _ taken.1 test;
       stops = λ seen it. tt;
     }
@@ -87,7 +90,8 @@ returns-in_default-report-2 g c =
           let taken = rw c.in-Some.is at (c.in-Ok.ensures.taken seen it) in
           let test = ap change_code (sym c.deref.ensures.value) ∙ sym c.change_code.ensures
           ∙ c.in-Some-change_code.is in
-          new_faulty seen.texts seen.left c.requires.changing c.requires.below took.only c.in-Ok.ensures.stack c.take_change.new.line.items c.in-Some.at.place taken.0
+          new_faulty seen.texts seen.left c.requires.changing c.requires.below took.only c.in-Ok.ensures.stack
+          c.take_change.new.line.items c.in-Some.at.place taken.0
           c.report-in-Some-change_code.new.self report.only taken.1 c.in-Some-change_code.code test
           (sym c.eq.ensures ∙ c.if-eq.false) report.reported;
       stops = λ seen it. tt;

@@ -83,7 +83,8 @@ returns-in-Err-begin_change g c =
                 (c.in-Err-begin_change.ensures.stops seen (still_seen took.reads it));
             reported = began_tells seen.texts seen.left
                 c.take_raw.new.run c.args.run.now c.in-Some.at c.take_raw.new.line.items c.in-Some-begun_at.begin _
-                took.only t.0 t.1 (begun g at.In-Some-begun_at) _ (c.in-Err-begin_change.ensures.reported seen (still_seen took.reads it));
+                took.only t.0 t.1 (begun g at.In-Some-begun_at) _ (c.in-Err-begin_change.ensures.reported seen
+                (still_seen took.reads it));
           };
     }
 
@@ -99,7 +100,8 @@ returns g c =
           let t = taken g at.In-Some seen it in
           began_yields seen.texts seen.left c.take_raw.new.run
           c.args.run.now c.in-Some.at c.take_raw.new.line.items c.in-Some-begun_at.begin _ took.only t.0 t.1
-          (begun g at.In-Some-begun_at) c.begin_change.new.run change.goes.inputs change.goes.names (change.changed seen (still_seen took.reads it));
+          (begun g at.In-Some-begun_at) c.begin_change.new.run change.goes.inputs change.goes.names
+          (change.changed seen (still_seen took.reads it));
       stops = λ seen it. tt;
     }
 

@@ -24,7 +24,8 @@ returns-in-Seeking-clause-turn g c =
     record {
       reads = seek.reads;
       turns = search rules;
-      yields = λ seen it. sought_yields _ _ c.args.run.now c.in-Seeking.is c.seek.new.run seek.only.inputs seek.only.stack seek.only.names (seek.searched seen it);
+      yields = λ seen it. sought_yields _ _ c.args.run.now c.in-Seeking.is c.seek.new.run seek.only.inputs
+          seek.only.stack seek.only.names (seek.searched seen it);
       stops = λ seen it. tt;
     }
 

@@ -10,7 +10,13 @@ returns c =
     let count = c.args.count in
     let within : s.used ≤ length bytes = omega (arith, c.self.invariant.0, c.self.invariant.1) in
     let below : count ≤ s.used =
-    omega (arith, c.requires, ap (λ (b : Buffered). length b.bytes) c.self.view_is, length-take-le s.used bytes within) in
+    omega (
+      arith,
+      c.requires,
+      ap (λ (b : Buffered). length b.bytes) c.self.view_is,
+      length-take-le s.used bytes
+          within,
+    ) in
     ap (take (s.used - count)) (whole_again bytes c.rotate_left.new.self s.bytes.items.len
     (c.rotate_left.ensures.len ∙ c.deref_mut.ensures.len)
     ∙ c.rotate_left.ensures.after

@@ -29,4 +29,5 @@ returns-clause-prints c =
     (omega (arith, run.ensures.room.0, c.buffer.invariant.0, s.bytes.items.ok.0)) in
     subst (λ (u : List ℕ). PrintsBy c.args.self.now ts c.args.buffer.now.bytes (take run.result.used u))
     (sym whole) (subst (λ (u : List ℕ). PrintsBy c.args.self.now ts u (take run.result.used run.new.bytes))
-    (ap (take s.used) c.as_mut_slice.ensures.value ∙ ap (λ (b : Buffered). b.bytes) c.buffer.view_is) run.ensures.prints)
+    (ap (take s.used) c.as_mut_slice.ensures.value ∙ ap (λ (b : Buffered). b.bytes) c.buffer.view_is)
+    run.ensures.prints)

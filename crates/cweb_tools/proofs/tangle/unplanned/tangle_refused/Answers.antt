@@ -9,7 +9,8 @@ in_log : {acts : List Act} {expected status : ℕ} {old new : SinkModel} → ((s
 in_log ends = ends
 
 pub returns-in-Err : goal.returns-in-Err
-returns-in-Err g c = each_some _ _ (λ r is. in_log (λ shelf out. log_halts _ (refusal_said {A = Unit {0}} {E = Unit {0}} (Err tt)
+returns-in-Err g c = each_some _ _ (λ r is. in_log (λ shelf out. log_halts _
+    (refusal_said {A = Unit {0}} {E = Unit {0}} (Err tt)
     c.args.web.scanned.now.store c.args.main.now c.args.fault r (items_of c.unplanned.result) is
     (rw c.store.ensures at c.unplanned.ensures) c.in-Err.ensures shelf out) refl))
 
