@@ -1,5 +1,5 @@
 -- What is known of a sink or of bins, and how calls change it.
-use Rattle.std.specs.Prelude.{◌≡◌, ◌+◌, ℕ, Bool, true, false, List, [], ◌++◌, Option, Some, None, IfSome, IsSome}
+use Rattle.std.specs.Prelude.{◌≡◌, ◌+◌, ℕ, List, [], ◌++◌, Option, Some, None, IfSome, IsSome}
 use Rattle.std.specs.Prelude.{option_map}
 use Rattle.cweb_files.specs.Files.{File, Refused, with_bytes}
 
@@ -15,11 +15,6 @@ pub record Beside : Type 0 where
 pub record SinkContents : Type 0 where
   pub bytes : List ℕ
   pub beside : Beside
-
--- The contents of a device, if it is observable.
-abbrev pub known : {A : Type 0} → Bool → A → Option A
-known true contents = Some contents
-known false contents = None
 
 -- A sink: the number of failed calls, and the contents if they are observable, which never changes.
 pub record SinkModel : Type 0 where

@@ -63,7 +63,7 @@ pub use Rattle.cweb_store.specs.declared.parts.PartRange.{PartRange}
 pub use Rattle.cweb_store.specs.declared.parts.links.Links.{Links}
 pub use Rattle.cweb_store.specs.declared.tokens.records.Record.{Record}
 pub use Rattle.cweb_store.specs.inner.Stored.{AreAnswers}
-pub use Rattle.cweb_store.specs.laws.BuilderCalls.{HoldsAtMost}
+pub use Rattle.cweb_store.specs.inner.Calls.{HoldsAtMost}
 pub use Rattle.cweb_store.specs.inner.DirectBytes.{direct_bytes}
 pub use Rattle.cweb_store.specs.inner.Links.{AreWithin, flag_of}
 pub use Rattle.cweb_store.specs.inner.Links.{has_head}
@@ -74,7 +74,7 @@ pub use Rattle.cweb_store.specs.inner.Records.{AreRecords, InternsToken, StringI
 pub use Rattle.cweb_store.specs.inner.Stored.{replacement_in}
 pub use Rattle.cweb_store.specs.inner.Stored.{replacements_at, stored_in, AreLast, AreStored, last_from}
 pub use Rattle.cweb_store.specs.inner.Next.{token_numbers, IsTokenIndex}
-pub use Rattle.cweb_store.specs.surface.TokenStrings.{has_string}
+pub use Rattle.cweb_store.specs.inner.Trailing.{has_string}
 pub use Rattle.cweb_store.specs.inner.Trailing.{is_trailing}
 pub use Rattle.cweb_store.specs.inner.Links.{is_wanted, wanted_in}
 pub use Rattle.cweb_store.specs.laws.BuilderCalls.{call_model, accepted_calls, AcceptsCall, AcceptsCalls}

@@ -1,4 +1,5 @@
 -- Definitions that only the functions of this crate cite.
+pub mod Calls
 pub mod OpenParts
 pub mod PartRanges
 pub mod DirectBytes

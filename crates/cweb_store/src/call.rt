@@ -4,7 +4,7 @@ ghost use Rattle.std.specs.Prelude.{◌≡◌, ◌-◌, ◌↔◌, if◌then◌e
 ghost use Rattle.cweb_store.specs.laws.BuilderCalls.{after_call};
 ghost use Rattle.cweb_names.specs.surface.Names.{too_many};
 ghost use Rattle.cweb_store.specs.laws.BuilderCalls.{call_model, AcceptsCall};
-ghost use Rattle.cweb_store.specs.laws.BuilderCalls.{HoldsAtMost};
+ghost use Rattle.cweb_store.specs.inner.Calls.{HoldsAtMost};
 
 use crate::builder::Builder;
 use crate::parts::PartKind;

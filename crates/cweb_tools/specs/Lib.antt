@@ -8,6 +8,5 @@ pub mod MergeActs
 pub mod Script
 pub mod Tangle
 pub mod Spacing
-pub mod surface
 pub mod laws
 pub mod inner

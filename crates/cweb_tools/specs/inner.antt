@@ -8,4 +8,5 @@ pub mod Expanders
 pub mod RuleModel
 pub mod Scanning
 pub mod Tangle
+pub mod Variables
 pub mod Web

@@ -1,6 +1,6 @@
 // The arguments and the variables of a run.
 ghost use Rattle.std.specs.Prelude.{◌≡◌, Option, None, Some, IfOk, option_map, slice_get};
-ghost use Rattle.cweb_tools.specs.surface.Variables.{Variables};
+ghost use Rattle.cweb_tools.specs.inner.Variables.{Variables};
 
 use std::alloc::{AllocError, Global};
 use std::env::FillError;

@@ -2,7 +2,7 @@
 ghost use Rattle.std.specs.Prelude.{◌≡◌, ◌<◌, ◌+◌, ◌^◌, ℕ, List, [], None, Some, All, IfOk};
 ghost use Rattle.std.specs.Prelude.{codes, map, option_map, string_bytes};
 ghost use Rattle.std.specs.Prelude.{IsUtf8};
-ghost use Rattle.cweb_tools.specs.surface.Variables.{Variables};
+ghost use Rattle.cweb_tools.specs.inner.Variables.{Variables};
 ghost use Rattle.cweb_log.specs.Log.{stop_line};
 ghost use Rattle.cweb_log.specs.DeviceModels.{Logs};
 

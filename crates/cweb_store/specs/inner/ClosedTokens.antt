@@ -7,7 +7,7 @@ use Rattle.cweb_store.specs.declared.tokens.token_index.TokenIndex.{TokenIndex}
 use Rattle.cweb_store.specs.inner.Records.{tokens_of, AreRecords}
 use Rattle.cweb_store.specs.inner.Next.{IsTokenIndex}
 use Rattle.cweb_texts.specs.inner.StringLists.{text_bytes}
-use Rattle.cweb_store.specs.surface.TokenStrings.{has_string}
+use Rattle.cweb_store.specs.inner.Trailing.{has_string}
 use Rattle.cweb_store.specs.surface.TokenStrings.{interned_token_bytes, words_of}
 use Rattle.cweb_texts.specs.inner.StringTables.{StringTableModel, has_word}
 

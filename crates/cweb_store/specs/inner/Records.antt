@@ -5,7 +5,7 @@ use Rattle.std.specs.List.{list_any}
 use Rattle.cweb_files.specs.declared.place.Place.{Place}
 use Rattle.cweb_store.specs.Parts as spec
 use Rattle.cweb_texts.specs.inner.StringLists.{string_at, text_bytes}
-use Rattle.cweb_store.specs.surface.TokenStrings.{has_string}
+use Rattle.cweb_store.specs.inner.Trailing.{has_string}
 use Rattle.cweb_store.specs.surface.TokenStrings.{with_word_of, other_bytes}
 use Rattle.cweb_texts.specs.inner.StringTables.{StringTableModel, has_word}
 use Rattle.cweb_texts.specs.surface.StringTables.{total}

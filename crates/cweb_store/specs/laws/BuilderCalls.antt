@@ -1,5 +1,5 @@
 -- Calls as values: what each changes, when a builder accepts it, and which returned `Ok`.
-use Rattle.std.specs.Prelude.{◌+◌, ◌<◌, ◌≤◌, List, [], ◌∷◌, filter, length, map, IsSome, IsNone, ℕ, fold}
+use Rattle.std.specs.Prelude.{◌+◌, ◌<◌, ◌≤◌, List, [], ◌∷◌, filter, length, map, IsSome, IsNone, fold}
 use Rattle.cweb_store.specs.declared.call.Answered.{Answered}
 use Rattle.cweb_store.specs.declared.call.Call as declared
 use Rattle.cweb_store.specs.declared.call.Call.TheVariants as made
@@ -59,9 +59,3 @@ AcceptsCalls c (call ∷ calls) = AcceptsCall c call × AcceptsCalls (after_call
 -- The calls that returned `Ok`.
 abbrev pub accepted_calls : List Answered → List Call
 accepted_calls answers = map (λ a. call_model a.call) (filter (λ a. a.is_ok) answers)
-
--- At most n occurrences, parts and tokens each.
-pub record HoldsAtMost (n : ℕ) (c : Contents) : Type 0 where
-  pub occurrences : length c.occurrences ≤ n
-  pub parts : part_count c.parts ≤ n
-  pub tokens : token_count c.parts ≤ n

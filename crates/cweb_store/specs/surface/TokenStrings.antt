@@ -1,5 +1,5 @@
 -- The strings of tokens, and how many bytes they have.
-use Rattle.std.specs.Prelude.{◌≡◌, ℕ, ◌+◌, List, [], ◌∷◌, ◌++◌, fold, length, Bool, true, false}
+use Rattle.std.specs.Prelude.{◌≡◌, ℕ, ◌+◌, List, [], ◌∷◌, ◌++◌, fold, length}
 use Rattle.cweb_texts.specs.surface.StringTables.{total, with_word}
 use Rattle.cweb_store.specs.Parts.{Token, Word, Number, Literal, Verbatim, Punct}
 
@@ -49,6 +49,3 @@ pub record AreInOneList (n : ℕ) (strings : List (List ℕ)) : Type 0 where
   pub bytes : List ℕ
   pub count : length bytes ≡ n
   pub ranges : AreSpansOf bytes strings
-
-abbrev pub has_string : Token → Bool
-has_string token = elim (token_strings token) [ [] ↦ false | string ∷ strings ↦ true ]

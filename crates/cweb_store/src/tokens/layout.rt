@@ -5,7 +5,7 @@ ghost use Rattle.cweb_store.specs.Parts.{at_close, is_blank, without_blank, with
 ghost use Rattle.cweb_store.specs.Parts.{without_layout};
 ghost use Rattle.cweb_store.specs.inner.PartRanges.{open_in};
 ghost use Rattle.cweb_store.specs.inner.Trailing.{CutsLayout, is_trailing};
-ghost use Rattle.cweb_store.specs.surface.TokenStrings.{has_string};
+ghost use Rattle.cweb_store.specs.inner.Trailing.{has_string};
 ghost use Rattle.cweb_store.specs.surface.TokenModels.{token_model};
 
 use crate::parts::Open;

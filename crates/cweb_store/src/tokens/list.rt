@@ -3,7 +3,7 @@
 ghost use Rattle.std.specs.Prelude.{◌≡◌, ◌<◌, ◌+◌, ◌++◌, ◌∷◌, [], filter, length, take, Some};
 ghost use Rattle.std.specs.Prelude.{slice_get, OnOk, OnErr};
 ghost use Rattle.cweb_names.specs.surface.Names.{too_many};
-ghost use Rattle.cweb_store.specs.surface.TokenStrings.{has_string};
+ghost use Rattle.cweb_store.specs.inner.Trailing.{has_string};
 
 use crate::tokens::Token;
 use crate::tokens::closed::ClosedTokens;

@@ -1,6 +1,6 @@
 use Rattle.std.specs.Prelude.{◌≡◌, All, Some, map, string_bytes, take}
 use Rattle.std.specs.Prelude.{IsUtf8}
-use Rattle.cweb_tools.specs.surface.Variables.{Variables}
+use Rattle.cweb_tools.specs.inner.Variables.{Variables}
 use Rattle.cweb_tools.proofs.program.read_args.Given as goal
 
 -- The words so far are the first arguments, which are UTF-8.
