@@ -3,7 +3,7 @@
 #![tactic(auto)]
 
 ghost use Rattle.std.specs.Prelude.{◌≡◌, []};
-ghost use Rattle.cweb_system.specs.Steps.{Seen};
+ghost use Rattle.cweb_system.specs.Steps.{OnDisk};
 
 use cweb_tools::{
     FileSystem, ProgramEnvironment, StdFolder, StdSink, as_slices, out_of_memory, read_args,
@@ -21,7 +21,7 @@ fn main(rt: HostRuntime) -> ExitCode {
 
 /// Runs with the arguments, the environment and the files of the program. Returns the exit status.
 fn tangle<R: Env + AllocGlobal, F: FileSystem + Drop, L: Write + Drop>(rt: &R, fs: F, log: L) -> u8
-    requires { Seen F.disk (λ see. (see fs).past ≡ []) }
+    requires { OnDisk F.disk (λ see. (see fs).past ≡ []) }
 {
     let mut log = StdSink::new(log);
     let env = ProgramEnvironment { runtime: rt };

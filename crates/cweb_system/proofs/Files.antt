@@ -7,7 +7,7 @@ use Rattle.cweb_system.specs.declared.node.Node.{Node}
 use Rattle.cweb_system.specs.declared.run_files.RunFiles.{RunFiles}
 use Rattle.cweb_system.specs.declared.written.WrittenFile.{WrittenFile}
 use Rattle.cweb_system.specs.FileSet.{keys_in}
-use Rattle.cweb_system.specs.Steps.{Disk, Seen}
+use Rattle.cweb_system.specs.Steps.{Disk, OnDisk}
 use Rattle.cweb_system.specs.Tree.{Tree, IsFile, Removes, SetsMode, at}
 use Rattle.cweb_system.specs.inner.Drafts.{Clears, DraftIsThere, IsAlone, LeavesFiles}
 use Rattle.cweb_system.specs.inner.Written.{Leaves}
@@ -48,7 +48,7 @@ cleared_leaves ws path old new places clears other = ⊎_elim
 -- A draft's path is cleared of what is no committed file.
 pub clearing : {F : Type 0} {disk : Option (F → Disk)} (files : RunFiles) (path : List ℕ) (old new : F)
     → Clears disk path old new
-    → Seen disk (λ see. All (λ (w : WrittenFile). IsFile w.key (at (see old).tree path) → ⊥) files.written.items)
+    → OnDisk disk (λ see. All (λ (w : WrittenFile). IsFile w.key (at (see old).tree path) → ⊥) files.written.items)
     → LeavesFiles disk files old new
 clearing files path old new clears other = record {
   decent = clears.decent (keys_in files.read);

@@ -8,7 +8,7 @@ use Rattle.cweb_files.specs.declared.bins.BinFault.{BinFault}
 use Rattle.cweb_files.specs.declared.bins.BinFault.TheVariants.{Memory, Device}
 use Rattle.cweb_system.specs.Bins.{draft_bytes, draft_name}
 use Rattle.cweb_system.specs.declared.drafts.path.Draft.{Draft}
-use Rattle.cweb_system.specs.Steps.{Disk, Seen}
+use Rattle.cweb_system.specs.Steps.{Disk, OnDisk}
 use Rattle.cweb_system.specs.Tree.{Tree}
 
 -- What bins have, from the committed files, the draft and the last refusal.
@@ -23,11 +23,11 @@ as_model failed contents = record { failed = failed; contents = contents }
 
 pub model_is : {F : Type 0} (disk : Option (F → Disk)) (old new : (F → Disk) → SinkContents)
     (change : SinkContents → SinkContents) {failed count : ℕ} → failed ≡ count
-    → Seen disk (λ see. new see ≡ change (old see))
+    → OnDisk disk (λ see. new see ≡ change (old see))
     → as_model failed (option_map new disk) ≡ as_model count (option_map change (option_map old disk))
 model_is {F = F} disk old new change counts is = λ i. as_model (counts i) (by_view disk is i)
   where
-    by_view : (disk : Option (F → Disk)) → Seen disk (λ see. new see ≡ change (old see))
+    by_view : (disk : Option (F → Disk)) → OnDisk disk (λ see. new see ≡ change (old see))
         → option_map new disk ≡ option_map change (option_map old disk)
     by_view None is = refl
     by_view (Some see) is = ap Some (is refl)
@@ -37,7 +37,7 @@ pub after_discard : {F : Type 0} (disk : Option (F → Disk)) (old mid new : (F 
     (change : SinkContents → SinkContents) {before between failed count : ℕ}
     → ((now : SinkContents) → change (without_draft now) ≡ change now)
     → as_model between (option_map mid disk) ≡ changed without_draft (as_model before (option_map old disk))
-    → failed ≡ count → Seen disk (λ see. new see ≡ change (mid see))
+    → failed ≡ count → OnDisk disk (λ see. new see ≡ change (mid see))
     → as_model failed (option_map new disk) ≡ as_model count (option_map change (option_map old disk))
 after_discard disk old mid new change {count = count} same gone counts is =
     model_is disk mid new change counts is

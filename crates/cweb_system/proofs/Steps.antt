@@ -8,7 +8,7 @@ use Rattle.cweb_system.specs.declared.node.FileKey.{FileKey}
 use Rattle.cweb_system.specs.declared.node.Node.{Node}
 use Rattle.cweb_system.specs.Tree.{Tree, IsFile, bytes_of, Appends, Creates, MayCreate, Removes, Renames, SetsMode}
 use Rattle.cweb_system.specs.inner.Drafts.{IsAlone, KeepsDecent}
-use Rattle.cweb_system.specs.Steps.{AreDecent, Arrives, Changes, Disk, IsDecent, IsDraftPlace, NotesFailure, Seen, Stays, TakesStep, view}
+use Rattle.cweb_system.specs.Steps.{AreDecent, Arrives, Changes, Disk, IsDecent, IsDraftPlace, NotesFailure, OnDisk, Stays, TakesStep, view}
 use Rattle.cweb_system.specs.inner.Drafts.{IsDraftAlone, IsUnread}
 
 -- Equal functions are equal at each argument.
@@ -48,7 +48,7 @@ noted was now (Err e) is' is = is'
 -- A call that changes the tree decently.
 pub keeps : {F A : Type 0} {disk : Option (F → Disk)} (read : List FileKey) (change : A → Tree → Tree → Type 0)
     {old new : F} {r : Result A FileFault} → Changes disk change old new r
-    → Seen disk (λ see. (x : A) → change x (see old).tree (see new).tree → IsDecent read (see old).tree (see new).tree)
+    → OnDisk disk (λ see. (x : A) → change x (see old).tree (see new).tree → IsDecent read (see old).tree (see new).tree)
     → KeepsDecent disk read old new
 keeps {F = F} {disk = disk} read change {old} {new} {r} c then =
     let see : F → Disk = view disk in
@@ -61,7 +61,7 @@ keeps {F = F} {disk = disk} read change {old} {new} {r} c then =
 -- A call that changes the tree in one way changes it in another, too, where the one is a case of the other.
 pub changes_then : {F A : Type 0} {disk : Option (F → Disk)} (one other : A → Tree → Tree → Type 0) (old new : F)
     (r : Result A FileFault) → Changes disk one old new r
-    → Seen disk (λ see. (x : A) → one x (see old).tree (see new).tree → other x (see old).tree (see new).tree)
+    → OnDisk disk (λ see. (x : A) → one x (see old).tree (see new).tree → other x (see old).tree (see new).tree)
     → Changes disk other old new r
 changes_then {A = A} one other old new r c then = record {
   ok = λ some. along r (then some) (c.ok some);

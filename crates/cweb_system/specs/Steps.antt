@@ -14,19 +14,19 @@ pub record Disk : Type 0 where
   pub failed : Bool
 
 -- Clauses say nothing of what is seen of an unobservable file system.
-abbrev pub nothing_seen : {F : Type 0} → F → Disk
-nothing_seen fs = record {
+abbrev pub no_disk : {F : Type 0} → F → Disk
+no_disk fs = record {
   tree = record { place = λ path. path; node = λ place. None; target = λ path. None; bytes = λ key. [] };
   past = [];
   failed = false;
 }
 
 abbrev pub view : {F : Type 0} → Option (F → Disk) → F → Disk
-view disk = unwrap_or disk nothing_seen
+view disk = unwrap_or disk no_disk
 
 -- If the file system is observable, this holds of what is seen of it.
-abbrev pub Seen : {F : Type 0} → Option (F → Disk) → ((F → Disk) → Type 0) → Type 0
-Seen disk Says = IsSome disk → Says (view disk)
+abbrev pub OnDisk : {F : Type 0} → Option (F → Disk) → ((F → Disk) → Type 0) → Type 0
+OnDisk disk Says = IsSome disk → Says (view disk)
 
 -- A call takes one step or none.
 abbrev pub TakesStep : Disk → Disk → Type 0
@@ -41,11 +41,11 @@ NotesFailure was now (Err fault) = IsTrue now
 -- name another place.
 pub record Changes {F A : Type 0} (disk : Option (F → Disk)) (change : A → Tree → Tree → Type 0) (old new : F)
     (result : Result A FileFault) : Type 0 where
-  pub ok : Seen disk (λ see. IfOk result (λ done. change done (see old).tree (see new).tree))
-  pub err : Seen disk (λ see. OnErr result ((see new).tree ≡ (see old).tree))
-  pub place : Seen disk (λ see. (see new).tree.place ≡ (see old).tree.place)
-  pub step : Seen disk (λ see. TakesStep (see old) (see new))
-  pub failed : Seen disk (λ see. NotesFailure (see old).failed (see new).failed result)
+  pub ok : OnDisk disk (λ see. IfOk result (λ done. change done (see old).tree (see new).tree))
+  pub err : OnDisk disk (λ see. OnErr result ((see new).tree ≡ (see old).tree))
+  pub place : OnDisk disk (λ see. (see new).tree.place ≡ (see old).tree.place)
+  pub step : OnDisk disk (λ see. TakesStep (see old) (see new))
+  pub failed : OnDisk disk (λ see. NotesFailure (see old).failed (see new).failed result)
 
 -- The place of a draft: of some name with byte 127 after it.
 abbrev pub IsDraftPlace : Tree → List ℕ → Type 0

@@ -1,7 +1,7 @@
 // Files of a file system as bins.
 ghost use Rattle.std.specs.Prelude.{◌≡◌, ◌≤◌, ◌<◌, ◌+◌, ◌^◌, ◌++◌, [], None, IsTrue, IsSome, IfSome, IfOk, IfErr, OnOk, OnErr};
 ghost use Rattle.std.specs.Prelude.{length, take, string_bytes};
-ghost use Rattle.cweb_system.specs.Steps.{Seen};
+ghost use Rattle.cweb_system.specs.Steps.{OnDisk};
 ghost use Rattle.cweb_system.specs.inner.Drafts.{IfCanBegin, IfCanPlace, IsCleared};
 ghost use Rattle.cweb_system.specs.inner.Drafts.{KeepsMode};
 ghost use Rattle.cweb_system.specs.inner.FolderSound.{IsSound, IsSound_prop};
@@ -41,7 +41,7 @@ impl<F: FileSystem + Drop> Folder<F> {
             ≡ changed (with_draft name.now) (folder_model F.FileSystem self.old)) }
         ensures err { IfErr result (λ fault. folder_model F.FileSystem self.new
             ≡ refused fault (folder_model F.FileSystem self.old)) }
-        ensures cause { Seen F.disk (λ see. self.old.draft ≡ None →
+        ensures cause { OnDisk F.disk (λ see. self.old.draft ≡ None →
             IfCanBegin self.old.files name.now (see self.old.fs) (IfErr result
             (λ fault. fault ≡ BinFault.Device → IsTrue (see self.new.fs).failed))) }
     {
@@ -74,7 +74,7 @@ impl<F: FileSystem + Drop> Folder<F> {
         ensures err { OnErr result (folder_model F.FileSystem self.new
             ≡ failed_once (folder_model F.FileSystem self.old)) }
         ensures begun { OnOk result (HasDraft (folder_model F.FileSystem self.old)) }
-        ensures cause { Seen F.disk (λ see. IsSome self.old.draft →
+        ensures cause { OnDisk F.disk (λ see. IsSome self.old.draft →
             OnErr result (IsTrue (see self.new.fs).failed)) }
     {
         let Some(mut draft) = self.draft.take() else {
@@ -102,12 +102,12 @@ impl<F: FileSystem + Drop> Folder<F> {
             ≡ changed committed (folder_model F.FileSystem self.old)) }
         ensures err { OnErr result (folder_model F.FileSystem self.new
             ≡ failing without_draft (folder_model F.FileSystem self.old)) }
-        ensures mode { Seen F.disk (λ see. OnOk result (IfSome self.old.draft
+        ensures mode { OnDisk F.disk (λ see. OnOk result (IfSome self.old.draft
             (λ draft. KeepsMode (string_bytes draft.name) (string_bytes draft.name) draft.key
             (see self.old.fs).tree (see self.new.fs).tree))) }
-        ensures removed { Seen F.disk (λ see. IfSome self.old.draft (λ draft.
+        ensures removed { OnDisk F.disk (λ see. IfSome self.old.draft (λ draft.
             IsCleared (string_bytes draft.path) (see self.new.fs))) }
-        ensures cause { Seen F.disk (λ see. IfSome self.old.draft (λ draft.
+        ensures cause { OnDisk F.disk (λ see. IfSome self.old.draft (λ draft.
             IfCanPlace self.old.files draft (see self.old.fs)
             (OnErr result (IsTrue (see self.new.fs).failed)))) }
     {
@@ -129,7 +129,7 @@ impl<F: FileSystem + Drop> Folder<F> {
         ensures keeps { KeepsFolder F.FileSystem self.old self.new }
         ensures gone { folder_model F.FileSystem self.new
             ≡ changed without_draft (folder_model F.FileSystem self.old) }
-        ensures removed { Seen F.disk (λ see. IfSome self.old.draft (λ draft.
+        ensures removed { OnDisk F.disk (λ see. IfSome self.old.draft (λ draft.
             IsCleared (string_bytes draft.path) (see self.new.fs))) }
         ensures idle { self.old.draft ≡ None → self.new.fs ≡ self.old.fs }
         ensures files { self.new.files ≡ self.old.files }

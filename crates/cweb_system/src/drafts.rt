@@ -1,7 +1,7 @@
 // Drafts: files that become outputs when they are renamed.
 ghost use Rattle.std.specs.Prelude.{◌≡◌, ◌++◌, ◌∷◌, [], IsTrue, IsErr, IfErr, IfOk, OnOk, string_bytes};
 ghost use Rattle.cweb_system.specs.FileSet.{keys_in};
-ghost use Rattle.cweb_system.specs.Steps.{Seen};
+ghost use Rattle.cweb_system.specs.Steps.{OnDisk};
 ghost use Rattle.cweb_system.specs.inner.Drafts.{DraftIsThere, CanPut, HasCause, HasDraft, IfCanBegin, LeavesFiles};
 ghost use Rattle.cweb_system.specs.inner.Drafts.{Prepares};
 ghost use Rattle.cweb_system.specs.inner.Keys.{is_among};
@@ -39,10 +39,10 @@ pub fn begin<F: FileSystem>(
     ensures written { files.new.written.items ≡ files.old.written.items }
     ensures room { IfOk result (λ draft. CanPut files.new draft.key) }
     ensures named { IfOk result (λ draft. string_bytes draft.name ≡ name.now) }
-    ensures begun { Seen F.disk (λ see. IfOk result (λ draft.
+    ensures begun { OnDisk F.disk (λ see. IfOk result (λ draft.
         DraftIsThere F.key files.old.written.items draft (see fs.new).tree
         × ((see fs.new).tree.bytes draft.key ≡ []))) }
-    ensures cause { Seen F.disk (λ see. IfCanBegin files.old name.now (see fs.old)
+    ensures cause { OnDisk F.disk (λ see. IfCanBegin files.old name.now (see fs.old)
         (HasCause (see fs.new).failed result)) }
 {
     files.reserve()?;
@@ -88,7 +88,7 @@ fn begin_draft<F: FileSystem>(
     requires path { string_bytes path ≡ string_bytes name ++ 127 ∷ [] }
     ensures leaves { Prepares F.disk (string_bytes path) files.now fs.old fs.new result }
     ensures named { IfOk result (λ draft. draft.name ≡ name) }
-    ensures begun { Seen F.disk (λ see. IfOk result (λ draft.
+    ensures begun { OnDisk F.disk (λ see. IfOk result (λ draft.
         DraftIsThere F.key files.now.written.items draft (see fs.new).tree
         × ((see fs.new).tree.bytes draft.key ≡ []))) }
 {
@@ -115,7 +115,7 @@ fn begin_device<F: FileSystem>(
 ) -> Result<Draft<F::File>, FileFault>
     requires { string_bytes path ≡ string_bytes name ++ 127 ∷ [] }
     ensures named { IfOk result (λ draft. draft.name ≡ name) }
-    ensures unseen { Seen F.disk (λ _. IsErr result) }
+    ensures unseen { OnDisk F.disk (λ _. IsErr result) }
 {
     let file = fs.open_device(name.as_str())?;
     let key = fs.key_of(&file)?;

@@ -1,7 +1,7 @@
 // The calls to the file system that a run needs, and what each does.
 ghost use Rattle.std.specs.Prelude.{◌≡◌, ◌≤◌, ◌<◌, ◌++◌, ℕ, List, [], Option, IsErr, IsOk, IfOk, MatchResult, Ok, length, take};
 ghost use Rattle.cweb_system.specs.declared.node.FileKey.{FileKey};
-ghost use Rattle.cweb_system.specs.Steps.{Changes, Disk, Seen};
+ghost use Rattle.cweb_system.specs.Steps.{Changes, Disk, OnDisk};
 ghost use Rattle.cweb_system.specs.Tree.{at, rest, Appends, IsAbsent, MayCreate, MayRename, Opens, Removes, SetsMode};
 
 use crate::node::{FileFault, FileKey, Node};
@@ -28,20 +28,20 @@ pub trait FileSystem {
 
     /// Looks up the entry under a path. A link isn't followed.
     fn look(&self, path: &str) -> Option<Node>
-        ensures { Seen disk (λ see. result ≡ at (see self.now).tree path.now) };
+        ensures { OnDisk disk (λ see. result ≡ at (see self.now).tree path.now) };
 
     /// Looks up what a path leads to, links followed.
     fn follow(&self, path: &str) -> Option<Node>;
 
     fn key_of(&self, file: &Self::File) -> Result<FileKey, FileFault>
-        ensures { Seen disk (λ _. result ≡ Ok (key file.now)) };
+        ensures { OnDisk disk (λ _. result ≡ Ok (key file.now)) };
 
     /// Waits for the lock of an open file.
     fn lock(&self, file: &Self::File) -> Result<(), FileFault>;
 
     /// Opens a file for reading, links followed. In an observable file system only memory can be lacking for that.
     fn open(&self, path: &str) -> Result<Self::File, FileFault>
-        ensures { Seen disk (λ see. MatchResult result
+        ensures { OnDisk disk (λ see. MatchResult result
             (λ file. Opens path.now (key file) (position file) (opened_as file) (see self.now).tree)
             (λ fault. (fault ≡ FileFault.Memory → ⊥) → IsAbsent path.now (see self.now).tree)) };
 
@@ -51,16 +51,16 @@ pub trait FileSystem {
         ensures within { IfOk result (λ n. n ≤ length piece.new) }
         ensures key { key file.new ≡ key file.old }
         ensures named { opened_as file.new ≡ opened_as file.old }
-        ensures ok { Seen disk (λ see. IfOk result (λ n.
+        ensures ok { OnDisk disk (λ see. IfOk result (λ n.
             rest (see self.now).tree (key file.old) (position file.old)
             ≡ take n piece.new ++ rest (see self.now).tree (key file.old) (position file.new))) }
-        ensures some { Seen disk (λ see. 0 < length piece.old → result ≡ Ok 0 →
+        ensures some { OnDisk disk (λ see. 0 < length piece.old → result ≡ Ok 0 →
             rest (see self.now).tree (key file.old) (position file.old) ≡ []) }
-        ensures never { Seen disk (λ _. IsOk result) };
+        ensures never { OnDisk disk (λ _. IsOk result) };
 
     /// Opens a device for writing; the path leads to one. An observable file system has none.
     fn open_device(&self, path: &str) -> Result<Self::File, FileFault>
-        ensures { Seen disk (λ _. IsErr result) };
+        ensures { OnDisk disk (λ _. IsErr result) };
 
     /// Creates a file and opens it for writing. `None`: something is there.
     fn create(&mut self, path: &str, mode: Option<u32>) -> Result<Option<Self::File>, FileFault>

@@ -1,6 +1,6 @@
 // Bins over a file system, observable if the file system is.
 ghost use Rattle.cweb_system.specs.FileSet.{keys_in};
-ghost use Rattle.cweb_system.specs.Steps.{AreDecent, Seen};
+ghost use Rattle.cweb_system.specs.Steps.{AreDecent, OnDisk};
 
 use crate::bins::Folder;
 use crate::file_set::FileSet;
@@ -14,7 +14,7 @@ use std::alloc::Global;
 pub struct FolderBins<F: FileSystem + Drop> {
     folder: Folder<F>,
     /// At each moment, each file that is no draft was the old one or a whole draft.
-    ghost steps: { ∥ (Seen F.disk (λ see.
+    ghost steps: { ∥ (OnDisk F.disk (λ see.
         AreDecent (keys_in folder.files.read) (see folder.fs).tree (see folder.fs).past)) ∥₁ },
 }
 
@@ -24,7 +24,7 @@ impl<F: FileSystem + Drop> FolderBins<F> {
 
     /// Bins that have committed no file. No output replaces a file in `read`.
     pub fn new(alloc: Global, fs: F, read: FileSet) -> Self
-        requires { Seen F.disk (λ see. (see fs).past ≡ []) }
+        requires { OnDisk F.disk (λ see. (see fs).past ≡ []) }
         ensures system { bins_system result ≡ fs }
         ensures read { bins_read result ≡ keys_in read }
         ensures empty { bins_model F.FileSystem result ≡ empty_bins F.FileSystem }
@@ -43,7 +43,7 @@ impl<F: FileSystem + Drop> FolderBins<F> {
 
     /// At each moment so far, each file that is no draft was the old one or a whole draft. (A law.)
     pub fn each_moment(&self)
-        ensures { ∥ (Seen F.disk (λ see. AreDecent (bins_read self.now)
+        ensures { ∥ (OnDisk F.disk (λ see. AreDecent (bins_read self.now)
             (see (bins_system self.now)).tree (see (bins_system self.now)).past)) ∥₁ }
     {}
 

@@ -4,7 +4,7 @@ ghost use Rattle.std.specs.Prelude.{string_bytes, vec_len, vec_capacity};
 ghost use Rattle.std.specs.Str.{bytes_eq};
 ghost use Rattle.std.proofs.Props.{props};
 ghost use Rattle.cweb_system.specs.FileSet.{keys_in};
-ghost use Rattle.cweb_system.specs.Steps.{Seen};
+ghost use Rattle.cweb_system.specs.Steps.{OnDisk};
 ghost use Rattle.cweb_system.specs.inner.Keys.{is_among};
 ghost use Rattle.cweb_system.specs.inner.Written.{HasFiles, HasNameAlone, IsNew, IsUnnamed};
 ghost use Rattle.cweb_system.specs.declared.written.WrittenFile.{WrittenFile};
@@ -46,7 +46,7 @@ impl RunFiles {
     pub fn has_written<F: FileSystem>(&self, fs: &F, key: FileKey) -> bool
         requires { HasFiles F.disk fs.now self.now.written.items }
         ensures value { result ≡ false →
-            Seen F.disk (λ _. IsNew key self.now.written.items) }
+            OnDisk F.disk (λ _. IsNew key self.now.written.items) }
         ensures none { IsNew key self.now.written.items → result ≡ false }
     {
         self.created.contains(key) && is_written(fs, self.written.as_slice(), key)
@@ -56,7 +56,7 @@ impl RunFiles {
     pub fn has_other_name<F: FileSystem>(&self, fs: &F, key: FileKey, name: &str) -> bool
         requires { HasFiles F.disk fs.now self.now.written.items }
         ensures value { result ≡ false →
-            Seen F.disk (λ _. HasNameAlone name.now key self.now.written.items) }
+            OnDisk F.disk (λ _. HasNameAlone name.now key self.now.written.items) }
         ensures none { HasNameAlone name.now key self.now.written.items → result ≡ false }
     {
         self.created.contains(key) && has_other_name(fs, self.written.as_slice(), key, name)
@@ -67,7 +67,7 @@ impl RunFiles {
         requires { HasFiles F.disk fs.now self.now.written.items }
         ensures unread { result ≡ true → Contains (keys_in self.now.read) key → ⊥ }
         ensures name { result ≡ true →
-            Seen F.disk (λ _. HasNameAlone name.now key self.now.written.items) }
+            OnDisk F.disk (λ _. HasNameAlone name.now key self.now.written.items) }
         ensures free { (Contains (keys_in self.now.read) key → ⊥) →
             HasNameAlone name.now key self.now.written.items → result ≡ true }
     {

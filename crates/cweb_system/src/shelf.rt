@@ -3,7 +3,7 @@ ghost use Rattle.std.specs.Prelude.{◌≡◌, [], None, Some, IsTrue, IsSome, I
 ghost use Rattle.std.specs.Option.{unwrap_or};
 ghost use Rattle.std.proofs.Props.{props};
 ghost use Rattle.cweb_system.specs.FileSet.{keys_in};
-ghost use Rattle.cweb_system.specs.Steps.{Seen};
+ghost use Rattle.cweb_system.specs.Steps.{OnDisk};
 ghost use Rattle.cweb_system.specs.Tree.{IsAbsent, Opens};
 ghost use Rattle.cweb_system.specs.inner.Keys.{KeepsRead, is_among};
 
@@ -24,7 +24,7 @@ pub struct FolderShelf<F: FileSystem + Drop> {
     /// In an observable file system no read fails.
     ghost whole: { IsSome F.disk → failed ≡ 0 } by { Prim.hlevel props },
     /// Reading takes no step.
-    ghost unchanged: { Seen F.disk (λ see. length (see fs).past ≡ 0) } by { Prim.hlevel props },
+    ghost unchanged: { OnDisk F.disk (λ see. length (see fs).past ≡ 0) } by { Prim.hlevel props },
 }
 
 impl<F: FileSystem + Drop> FolderShelf<F> {
@@ -33,7 +33,7 @@ impl<F: FileSystem + Drop> FolderShelf<F> {
 
     /// A shelf that doesn't record what it opens.
     pub fn new(fs: F) -> Self
-        requires { Seen F.disk (λ see. (see fs).past ≡ []) }
+        requires { OnDisk F.disk (λ see. (see fs).past ≡ []) }
         ensures system { shelf_system result ≡ fs }
         ensures model { shelf_model F.FileSystem result ≡ new_shelf F.FileSystem fs }
         ensures read { shelf_read result ≡ None }
@@ -47,7 +47,7 @@ impl<F: FileSystem + Drop> FolderShelf<F> {
 
     /// A shelf that records each file that it opens, so that no output replaces it.
     pub fn noting(fs: F, read: FileSet) -> Self
-        requires { Seen F.disk (λ see. (see fs).past ≡ []) }
+        requires { OnDisk F.disk (λ see. (see fs).past ≡ []) }
         ensures system { shelf_system result ≡ fs }
         ensures model { shelf_model F.FileSystem result ≡ new_shelf F.FileSystem fs }
         ensures read { shelf_read result ≡ Some (keys_in read) }
@@ -77,12 +77,12 @@ impl<F: FileSystem + Drop> FolderShelf<F> {
     fn opened(&mut self, name: &str) -> Result<F::File, FileFault>
         ensures system { shelf_system self.new ≡ shelf_system self.old }
         ensures model { shelf_model F.FileSystem self.new ≡ shelf_model F.FileSystem self.old }
-        ensures opens { Seen F.disk (λ see. MatchResult result
+        ensures opens { OnDisk F.disk (λ see. MatchResult result
             (λ file. Opens name.now (F.key file) (F.position file) (F.opened_as file)
             (see (shelf_system self.old)).tree)
             (λ fault. (fault ≡ FileFault.Memory → ⊥) →
             IsAbsent name.now (see (shelf_system self.old)).tree)) }
-        ensures recorded { Seen F.disk (λ _. IfOk result (λ file.
+        ensures recorded { OnDisk F.disk (λ _. IfOk result (λ file.
             IfSome (shelf_read self.new) (λ keys. IsTrue (is_among keys (F.key file))))) }
         ensures kept { KeepsRead (shelf_read self.old) (shelf_read self.new) }
     {

@@ -2,7 +2,7 @@
 ghost use Rattle.std.specs.Prelude.{◌≡◌, ◌≤◌, IsTrue, false, true, filter, not};
 ghost use Rattle.std.specs.Prelude.{string_bytes, vec_len, vec_capacity};
 ghost use Rattle.std.specs.Str.{bytes_eq};
-ghost use Rattle.cweb_system.specs.Steps.{Seen};
+ghost use Rattle.cweb_system.specs.Steps.{OnDisk};
 ghost use Rattle.cweb_system.specs.inner.Written.{HasFiles, HasNameAlone, IsNew};
 ghost use Rattle.cweb_system.specs.Tree.{IsFile, at};
 
@@ -19,7 +19,7 @@ pub struct WrittenFile {
 /// Whether the file of this key was written, and is still there.
 pub fn is_written<F: FileSystem>(fs: &F, written: &[WrittenFile], key: FileKey) -> bool
     requires { HasFiles F.disk fs.now written.now }
-    ensures value { result ≡ false → Seen F.disk (λ _. IsNew key written.now) }
+    ensures value { result ≡ false → OnDisk F.disk (λ _. IsNew key written.now) }
     ensures none { IsNew key written.now → result ≡ false }
 {
     for file in written {
@@ -32,9 +32,9 @@ pub fn is_written<F: FileSystem>(fs: &F, written: &[WrittenFile], key: FileKey) 
 
 /// Whether this file has the key, and is still there.
 fn is_of_key<F: FileSystem>(fs: &F, file: &WrittenFile, key: FileKey) -> bool
-    requires { Seen F.disk (λ see. IsFile file.now.key
+    requires { OnDisk F.disk (λ see. IsFile file.now.key
         (at (see fs.now).tree (string_bytes file.now.name))) }
-    ensures value { result ≡ false → Seen F.disk (λ _. file.now.key ≡ key → ⊥) }
+    ensures value { result ≡ false → OnDisk F.disk (λ _. file.now.key ≡ key → ⊥) }
     ensures none { (file.now.key ≡ key → ⊥) → result ≡ false }
 {
     file.key == key && is_at(fs, file.name.as_str(), key)
@@ -49,7 +49,7 @@ pub fn has_other_name<F: FileSystem>(
     name: &str,
 ) -> bool
     requires { HasFiles F.disk fs.now written.now }
-    ensures value { result ≡ false → Seen F.disk (λ _. HasNameAlone name.now key written.now) }
+    ensures value { result ≡ false → OnDisk F.disk (λ _. HasNameAlone name.now key written.now) }
     ensures none { HasNameAlone name.now key written.now → result ≡ false }
 {
     for file in written {
@@ -62,9 +62,9 @@ pub fn has_other_name<F: FileSystem>(
 
 /// Whether this file has the key and another name, and is still there.
 fn is_other_name<F: FileSystem>(fs: &F, file: &WrittenFile, key: FileKey, name: &str) -> bool
-    requires { Seen F.disk (λ see. IsFile file.now.key
+    requires { OnDisk F.disk (λ see. IsFile file.now.key
         (at (see fs.now).tree (string_bytes file.now.name))) }
-    ensures value { result ≡ false → Seen F.disk (λ _.
+    ensures value { result ≡ false → OnDisk F.disk (λ _.
         file.now.key ≡ key → string_bytes file.now.name ≡ name.now) }
     ensures none { (file.now.key ≡ key → string_bytes file.now.name ≡ name.now) → result ≡ false }
 {
@@ -73,7 +73,7 @@ fn is_other_name<F: FileSystem>(fs: &F, file: &WrittenFile, key: FileKey, name: 
 
 /// Whether a path names this very file, or can't be looked up.
 pub fn is_at<F: FileSystem>(fs: &F, path: &str, key: FileKey) -> bool
-    ensures { Seen F.disk (λ see. IsFile key (at (see fs.now).tree path.now) → result ≡ true) }
+    ensures { OnDisk F.disk (λ see. IsFile key (at (see fs.now).tree path.now) → result ≡ true) }
 {
     match fs.look(path) {
         Some(Node::File(found, _)) => found == key,

@@ -10,7 +10,7 @@ use Rattle.cweb_system.specs.declared.folder_bins.FolderBins.{FolderBins}
 use Rattle.cweb_system.specs.declared.shelf.FolderShelf.{FolderShelf}
 use Rattle.cweb_system.specs.Bins.{bins_model, bins_system, empty_bins, file_in, folder_contents, new_shelf}
 use Rattle.cweb_system.specs.inner.ShelfState.{shelf_model}
-use Rattle.cweb_system.specs.Steps.{Disk, Seen, view}
+use Rattle.cweb_system.specs.Steps.{Disk, OnDisk, view}
 use Rattle.cweb_system.specs.Tree.{Tree, contents}
 use Rattle.cweb_tools.specs.InFolder.{AreIn, KeepsInFolder, devices_before}
 use Rattle.cweb_tools.proofs.TanglePromisesProved.{tangled_freely}
@@ -28,7 +28,7 @@ all_in tree (w ∷ written) = All-cons (λ (file : File). contents tree file.nam
 pub left_in_folder : {F H : Type 0} (system : FileSystem F H) (fs : F) (bins : FolderBins F H system) (world : World)
     (args : Option OptionsModel) (log log' : SinkModel) (status : ℕ)
     → KeepsInFolder (TanglePromises world args) (devices_before system fs log) (bins_model system bins) log' status
-    → Seen system.disk (λ see. (course : TangleCourse) → IsTangleCourse world args course
+    → OnDisk system.disk (λ see. (course : TangleCourse) → IsTangleCourse world args course
     → RanFreely (script (shown_by args) course) (devices_before system fs log)
     (record { shelf = (devices_before system fs log).shelf; out = bins_model system bins; log = log' })
     → AreIn (see (bins_system bins)).tree (fold put_file [] (written_files (script (shown_by args) course))))

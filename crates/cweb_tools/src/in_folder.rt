@@ -3,7 +3,7 @@ ghost use Rattle.std.specs.Prelude.{◌≡◌, ◌<◌, ◌+◌, ◌^◌, [], fo
 ghost use Rattle.cweb_files.specs.Files.{put_file};
 ghost use Rattle.std.specs.Option.{option_copied};
 ghost use Rattle.cweb_system.specs.Bins.{bins_model, bins_read, bins_system, new_shelf};
-ghost use Rattle.cweb_system.specs.Steps.{AreDecent, Seen};
+ghost use Rattle.cweb_system.specs.Steps.{AreDecent, OnDisk};
 ghost use Rattle.cweb_log.specs.CommandLine.{options_by, web_names_by};
 ghost use Rattle.cweb_log.specs.DeviceModels.{SinkCountsFit, contents_of, failed_reads};
 ghost use Rattle.cweb_tools.specs.Course.{world_of};
@@ -32,14 +32,14 @@ pub fn tangle_in_folder<F: FileSystem + Drop, L: Sink>(
     fs: F,
     log: &mut L,
 ) -> (u8, FolderBins<F>)
-    requires begun { Seen F.disk (λ see. (see fs).past ≡ []) }
+    requires begun { OnDisk F.disk (λ see. (see fs).past ≡ []) }
     requires count { (L.model log.old).failed + 1 < 2 ^ 64 }
     // If nothing failed, the folder has the files of the course, with their bytes.
     ensures files { let before = devices_before F.FileSystem fs (L.model log.old) in
         let args = options_by (map (λ word. word.now) words.now) in
         let world = world_of (contents_of (new_shelf F.FileSystem fs)).texts
         (option_copied inputs.entry) in
-        Seen F.disk (λ see. (course : TangleCourse) → IsTangleCourse world args course →
+        OnDisk F.disk (λ see. (course : TangleCourse) → IsTangleCourse world args course →
         RanFreely (script (shown_by args) course) before (record before {
           out = bins_model F.FileSystem result.1;
           log = L.model log.new;
@@ -48,7 +48,7 @@ pub fn tangle_in_folder<F: FileSystem + Drop, L: Sink>(
         (fold put_file [] (written_files (script (shown_by args) course)))) }
     // In any run, at each moment, each file that is no draft is the old one or a whole new one, and no file that was
     // read is replaced.
-    ensures moments { ∥ (Seen F.disk (λ see. AreDecent (bins_read result.1)
+    ensures moments { ∥ (OnDisk F.disk (λ see. AreDecent (bins_read result.1)
         (see (bins_system result.1)).tree (see (bins_system result.1)).past)) ∥₁ }
     ensures promises { let args = options_by (map (λ word. word.now) words.now) in
         let world = world_of (contents_of (new_shelf F.FileSystem fs)).texts
@@ -89,7 +89,7 @@ pub fn merge_in_folder<F: FileSystem + Drop, W: Sink, L: Sink>(
     out: &mut W,
     log: &mut L,
 ) -> u8
-    requires begun { Seen F.disk (λ see. (see fs).past ≡ []) }
+    requires begun { OnDisk F.disk (λ see. (see fs).past ≡ []) }
     requires counts { SinkCountsFit (W.model out.old).failed (L.model log.old).failed }
     ensures promises { let args = web_names_by (map (λ word. word.now) words.now) in
         let world = world_of (contents_of (new_shelf F.FileSystem fs)).texts
@@ -116,7 +116,7 @@ pub fn depend_in_folder<F: FileSystem + Drop, W: Sink, L: Sink>(
     out: &mut W,
     log: &mut L,
 ) -> u8
-    requires begun { Seen F.disk (λ see. (see fs).past ≡ []) }
+    requires begun { OnDisk F.disk (λ see. (see fs).past ≡ []) }
     requires counts { SinkCountsFit (W.model out.old).failed (L.model log.old).failed }
     ensures promises { let args = options_by (map (λ word. word.now) words.now) in
         let world = world_of (contents_of (new_shelf F.FileSystem fs)).texts

@@ -2,7 +2,7 @@
 #![tactic(auto)]
 
 ghost use Rattle.std.specs.Prelude.{◌≡◌, []};
-ghost use Rattle.cweb_system.specs.Steps.{Seen};
+ghost use Rattle.cweb_system.specs.Steps.{OnDisk};
 
 use cweb_tools::{
     FileSystem, ProgramEnvironment, StdFolder, StdSink, as_slices, merge_in_folder, out_of_memory,
@@ -28,7 +28,7 @@ fn merge<R: Env + AllocGlobal, F: FileSystem + Drop, W: Write + Drop, L: Write +
     out: W,
     log: L,
 ) -> u8
-    requires { Seen F.disk (λ see. (see fs).past ≡ []) }
+    requires { OnDisk F.disk (λ see. (see fs).past ≡ []) }
 {
     let mut log = StdSink::new(log);
     let env = ProgramEnvironment { runtime: rt };

@@ -7,7 +7,7 @@ use Rattle.cweb_system.specs.declared.node.Node.{Node}
 use Rattle.cweb_system.specs.declared.run_files.RunFiles.{RunFiles}
 use Rattle.cweb_system.specs.declared.written.WrittenFile.{WrittenFile}
 use Rattle.cweb_system.specs.FileSet.{keys_in}
-use Rattle.cweb_system.specs.Steps.{AreDecent, Disk, IsDraftPlace, Seen}
+use Rattle.cweb_system.specs.Steps.{AreDecent, Disk, IsDraftPlace, OnDisk}
 use Rattle.cweb_system.specs.Tree.{Tree, at, IsFile, Removes}
 use Rattle.cweb_system.specs.inner.Keys.{is_among}
 use Rattle.cweb_system.specs.inner.Written.{HasFiles, HasNameAlone, IsNew, IsUnnamed, Leaves}
@@ -18,14 +18,14 @@ IsDraftAlone key tree = (p : List ℕ) → IsFile key (tree.node p) → IsDraftP
 
 -- Calls whose steps are decent. No failure is forgotten.
 pub record KeepsDecent {F : Type 0} (disk : Option (F → Disk)) (read : List FileKey) (old new : F) : Type 0 where
-  pub steps : Seen disk (λ see. AreDecent read (see old).tree (see old).past
+  pub steps : OnDisk disk (λ see. AreDecent read (see old).tree (see old).past
       → AreDecent read (see new).tree (see new).past)
-  pub failed : Seen disk (λ see. IsTrue (see old).failed → IsTrue (see new).failed)
+  pub failed : OnDisk disk (λ see. IsTrue (see old).failed → IsTrue (see new).failed)
 
 -- Calls whose steps are decent and leave the committed files alone.
 pub record LeavesFiles {F : Type 0} (disk : Option (F → Disk)) (files : RunFiles) (old new : F) : Type 0 where
   pub decent : KeepsDecent disk (keys_in files.read) old new
-  pub leaves : Seen disk (λ see. Leaves files.written.items (see old).tree (see new).tree)
+  pub leaves : OnDisk disk (λ see. Leaves files.written.items (see old).tree (see new).tree)
 
 -- A file has one name.
 abbrev pub IsAlone : FileKey → List ℕ → Tree → Type 0
@@ -52,7 +52,7 @@ pub record DraftIsThere {H : Type 0} (key : H → FileKey) (written : List Writt
 pub record HasDraft {F H : Type 0} (disk : Option (F → Disk)) (key : H → FileKey) (run : RunFiles) (begun : Draft H)
     (fs : F) : Type 0 where
   pub files : HasFiles disk fs run.written.items
-  pub draft : Seen disk (λ see. DraftIsThere key run.written.items begun (see fs).tree)
+  pub draft : OnDisk disk (λ see. DraftIsThere key run.written.items begun (see fs).tree)
 
 -- The file of a draft can be recorded when it is committed.
 abbrev pub CanPut : RunFiles → FileKey → Type 0
@@ -71,8 +71,8 @@ pub record IsApart (name : List ℕ) (key : FileKey) (files : RunFiles) (tree : 
 -- The entry under a path is removed in a decent step, or nothing changes.
 pub record Clears {F : Type 0} (disk : Option (F → Disk)) (path : List ℕ) (old new : F) : Type 0 where
   pub decent : (read : List FileKey) → KeepsDecent disk read old new
-  pub place : Seen disk (λ see. (see new).tree.place ≡ (see old).tree.place)
-  pub removes : Seen disk (λ see. Removes path (see old).tree (see new).tree ⊎ ((see new).tree ≡ (see old).tree))
+  pub place : OnDisk disk (λ see. (see new).tree.place ≡ (see old).tree.place)
+  pub removes : OnDisk disk (λ see. Removes path (see old).tree (see new).tree ⊎ ((see new).tree ≡ (see old).tree))
 
 -- What is at `path` now has this key and the permissions of the file that was under `name`.
 abbrev pub KeepsMode : List ℕ → List ℕ → FileKey → Tree → Tree → Type 0
@@ -110,14 +110,14 @@ HasCause failed result = IfErr result (λ fault. (fault ≡ FileFault.Memory →
 pub record Prepares {F A : Type 0} (disk : Option (F → Disk)) (path : List ℕ) (files : RunFiles) (old new : F)
     (result : Result A FileFault) : Type 0 where
   pub leaves : LeavesFiles disk files old new
-  pub cause : Seen disk (λ see. IsClearable files (at (see old).tree path) → HasCause (see new).failed result)
+  pub cause : OnDisk disk (λ see. IsClearable files (at (see old).tree path) → HasCause (see new).failed result)
 
 -- If nothing is in the way of a commit, a call has failed where it does. A file was committed under the draft's name
 -- only if it may be replaced.
 pub record AnswersCommit {F H : Type 0} (disk : Option (F → Disk)) (files : RunFiles) (draft : Draft H) (old new : F)
     (result : Result Bool FileFault) : Type 0 where
-  pub cause : Seen disk (λ see. IfCanPlace files draft (see old) (OnErr result (IsTrue (see new).failed)))
-  pub first : Seen disk (λ _. IfOk result (λ replaces. replaces ≡ false
+  pub cause : OnDisk disk (λ see. IfCanPlace files draft (see old) (OnErr result (IsTrue (see new).failed)))
+  pub first : OnDisk disk (λ _. IfOk result (λ replaces. replaces ≡ false
       → IsUnnamed (string_bytes draft.name) files.written.items))
 
 -- Nothing is at a path, or a call has failed.

@@ -5,7 +5,7 @@ use Rattle.cweb_system.specs.declared.drafts.path.Draft.{Draft}
 use Rattle.cweb_system.specs.declared.node.FileKey.{FileKey}
 use Rattle.cweb_system.specs.declared.node.Node.{Node}
 use Rattle.cweb_system.specs.declared.run_files.RunFiles.{RunFiles}
-use Rattle.cweb_system.specs.Steps.{Disk, Seen}
+use Rattle.cweb_system.specs.Steps.{Disk, OnDisk}
 use Rattle.cweb_system.specs.Tree.{IsFile}
 use Rattle.cweb_system.specs.inner.Drafts.{CanPut, DraftIsThere}
 use Rattle.cweb_system.specs.inner.Written.{HasFiles}
@@ -14,7 +14,7 @@ use Rattle.cweb_system.specs.inner.Written.{HasFiles}
 abbrev pub IsDraftSound : {F H : Type 0} → Option (F → Disk) → (H → FileKey) → RunFiles → Option (Draft H) → F → Type 0
 IsDraftSound disk key files None fs = ⊤
 IsDraftSound disk key files (Some draft) fs = CanPut files draft.key
-    × Seen disk (λ see. DraftIsThere key files.written.items draft (see fs).tree)
+    × OnDisk disk (λ see. DraftIsThere key files.written.items draft (see fs).tree)
 
 -- The committed files and the draft are where the run has put them.
 pub record IsSound {F H : Type 0} (disk : Option (F → Disk)) (key : H → FileKey) (run : RunFiles)

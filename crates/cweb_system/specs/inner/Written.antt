@@ -2,7 +2,7 @@
 use Rattle.std.specs.Prelude.{◌≡◌, ℕ, List, All, Option, string_bytes}
 use Rattle.cweb_system.specs.declared.node.FileKey.{FileKey}
 use Rattle.cweb_system.specs.declared.written.WrittenFile.{WrittenFile}
-use Rattle.cweb_system.specs.Steps.{Disk, Seen}
+use Rattle.cweb_system.specs.Steps.{Disk, OnDisk}
 use Rattle.cweb_system.specs.Tree.{Tree, at, IsFile}
 
 -- Each file that was committed is there, under its name.
@@ -11,7 +11,7 @@ FilesAreThere tree written = All (λ (w : WrittenFile). IsFile w.key (at tree (s
 
 -- They are there in an observable file system.
 abbrev pub HasFiles : {F : Type 0} → Option (F → Disk) → F → List WrittenFile → Type 0
-HasFiles disk fs written = Seen disk (λ see. FilesAreThere (see fs).tree written)
+HasFiles disk fs written = OnDisk disk (λ see. FilesAreThere (see fs).tree written)
 
 -- No committed file has this key.
 abbrev pub IsNew : FileKey → List WrittenFile → Type 0

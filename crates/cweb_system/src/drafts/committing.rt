@@ -1,7 +1,7 @@
 // Drafts are put in place, or discarded.
 ghost use Rattle.std.specs.Prelude.{◌≡◌, None, Some, IsTrue, IsOk, IfOk, OnOk, OnErr, string_bytes};
 ghost use Rattle.cweb_system.specs.FileSet.{keys_in};
-ghost use Rattle.cweb_system.specs.Steps.{Seen};
+ghost use Rattle.cweb_system.specs.Steps.{OnDisk};
 ghost use Rattle.cweb_system.specs.Tree.{IsFile, at};
 ghost use Rattle.cweb_system.specs.inner.Drafts.{AnswersCommit, DraftIsThere, HasDraft, IsApart, IsCleared, KeepsDecent};
 ghost use Rattle.cweb_system.specs.inner.Drafts.{KeepsMode, LeavesFiles};
@@ -23,15 +23,15 @@ pub fn put_in_place<F: FileSystem>(
 ) -> Result<bool, FileFault>
     requires { HasDraft F.disk F.key files.now draft.now fs.old }
     ensures decent { KeepsDecent F.disk (keys_in files.now.read) fs.old fs.new }
-    ensures ok { Seen F.disk (λ see. OnOk result (Places (string_bytes draft.now.name) draft.now.key
+    ensures ok { OnDisk F.disk (λ see. OnOk result (Places (string_bytes draft.now.name) draft.now.key
         files.now.written.items (see fs.old).tree (see fs.new).tree)) }
-    ensures err { Seen F.disk (λ see. OnErr result (Leaves files.now.written.items (see fs.old).tree
+    ensures err { OnDisk F.disk (λ see. OnErr result (Leaves files.now.written.items (see fs.old).tree
         (see fs.new).tree)) }
-    ensures stays { Seen F.disk (λ see. OnErr result (DraftIsThere F.key files.now.written.items
+    ensures stays { OnDisk F.disk (λ see. OnErr result (DraftIsThere F.key files.now.written.items
         draft.now (see fs.new).tree)) }
-    ensures mode { Seen F.disk (λ see. OnOk result (KeepsMode (string_bytes draft.now.name)
+    ensures mode { OnDisk F.disk (λ see. OnOk result (KeepsMode (string_bytes draft.now.name)
         (string_bytes draft.now.name) draft.now.key (see fs.old).tree (see fs.new).tree)) }
-    ensures gone { Seen F.disk (λ see. OnOk result (at (see fs.new).tree
+    ensures gone { OnDisk F.disk (λ see. OnOk result (at (see fs.new).tree
         (string_bytes draft.now.path) ≡ None)) }
     ensures answers { AnswersCommit F.disk files.now draft.now fs.old fs.new result }
 {
@@ -46,9 +46,9 @@ pub fn put_in_place<F: FileSystem>(
 
 /// The permissions of the draft. It is an error if it isn't there.
 fn own_mode<F: FileSystem>(fs: &F, draft: &Draft<F::File>) -> Result<u32, FileFault>
-    ensures ok { Seen F.disk (λ see. IfOk result (λ mode. at (see fs.now).tree
+    ensures ok { OnDisk F.disk (λ see. IfOk result (λ mode. at (see fs.now).tree
         (string_bytes draft.now.path) ≡ Some (Node.File draft.now.key mode))) }
-    ensures never { Seen F.disk (λ see. IsFile draft.now.key
+    ensures never { OnDisk F.disk (λ see. IsFile draft.now.key
         (at (see fs.now).tree (string_bytes draft.now.path)) → IsOk result) }
 {
     match fs.look(draft.path.as_str()) {
@@ -68,14 +68,14 @@ fn keep_mode<F: FileSystem>(
 ) -> Result<bool, FileFault>
     requires { HasDraft F.disk F.key files.now draft.now fs.old }
     ensures leaves { LeavesFiles F.disk files.now fs.old fs.new }
-    ensures stays { Seen F.disk (λ see. DraftIsThere F.key files.now.written.items draft.now
+    ensures stays { OnDisk F.disk (λ see. DraftIsThere F.key files.now.written.items draft.now
         (see fs.new).tree) }
-    ensures bytes { Seen F.disk (λ see. (see fs.new).tree.bytes ≡ (see fs.old).tree.bytes) }
-    ensures mode { Seen F.disk (λ see.
+    ensures bytes { OnDisk F.disk (λ see. (see fs.new).tree.bytes ≡ (see fs.old).tree.bytes) }
+    ensures mode { OnDisk F.disk (λ see.
         at (see fs.old).tree (string_bytes draft.now.path) ≡ Some (Node.File draft.now.key mode) →
         OnOk result (KeepsMode (string_bytes draft.now.name) (string_bytes draft.now.path)
         draft.now.key (see fs.old).tree (see fs.new).tree)) }
-    ensures apart { Seen F.disk (λ see. OnOk result (IsApart (string_bytes draft.now.name)
+    ensures apart { OnDisk F.disk (λ see. OnOk result (IsApart (string_bytes draft.now.name)
         draft.now.key files.now (see fs.new).tree)) }
     ensures answers { AnswersCommit F.disk files.now draft.now fs.old fs.new result }
 {
@@ -101,7 +101,7 @@ fn keep_mode<F: FileSystem>(
 pub fn discard<F: FileSystem>(fs: &mut F, draft: Draft<F::File>, files: &RunFiles)
     requires { HasDraft F.disk F.key files.now draft fs.old }
     ensures leaves { LeavesFiles F.disk files.now fs.old fs.new }
-    ensures gone { Seen F.disk (λ see. IsCleared (string_bytes draft.path) (see fs.new)) }
+    ensures gone { OnDisk F.disk (λ see. IsCleared (string_bytes draft.path) (see fs.new)) }
 {
     if !draft.is_device && is_at(fs, draft.path.as_str(), draft.key) {
         let path = DraftPath {

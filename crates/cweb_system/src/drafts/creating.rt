@@ -3,7 +3,7 @@ ghost use Rattle.std.specs.Prelude.{◌≡◌, None, Some, Ok, List, Contains, I
 ghost use Rattle.std.specs.Prelude.{true};
 ghost use Rattle.cweb_system.specs.declared.node.FileKey.{FileKey};
 ghost use Rattle.cweb_system.specs.FileSet.{keys_in};
-ghost use Rattle.cweb_system.specs.Steps.{Seen};
+ghost use Rattle.cweb_system.specs.Steps.{OnDisk};
 ghost use Rattle.cweb_system.specs.Tree.{IsFile, at};
 ghost use Rattle.cweb_system.specs.inner.Drafts.{Begins, Clears, HasCause, IsCleared, LeavesFiles, Prepares};
 ghost use Rattle.cweb_system.specs.inner.Written.{HasFiles};
@@ -27,7 +27,7 @@ pub fn created<F: FileSystem>(
 ) -> Result<(F::File, FileKey), FileFault>
     requires { HasFiles F.disk fs.old files.now.written.items }
     ensures leaves { Prepares F.disk path.entry.text.now files.now fs.old fs.new result }
-    ensures begun { Seen F.disk (λ see. IfOk result (λ made. Begins path.entry.text.now
+    ensures begun { OnDisk F.disk (λ see. IfOk result (λ made. Begins path.entry.text.now
         (F.key made.0) made.1 files.now.written.items (see fs.new).tree)) }
 {
     for _ in 0..TURNS {
@@ -47,12 +47,12 @@ fn created_now<F: FileSystem>(
 ) -> Result<Option<(F::File, FileKey)>, FileFault>
     requires { HasFiles F.disk fs.old files.now.written.items }
     ensures leaves { Prepares F.disk path.entry.text.now files.now fs.old fs.new result }
-    ensures begun { Seen F.disk (λ see. IfOk result (λ tried.
+    ensures begun { OnDisk F.disk (λ see. IfOk result (λ tried.
         IfSome tried (λ made. Begins path.entry.text.now (F.key made.0) made.1
         files.now.written.items (see fs.new).tree))) }
-    ensures gone { Seen F.disk (λ see. IfOk result (λ tried. tried ≡ None →
+    ensures gone { OnDisk F.disk (λ see. IfOk result (λ tried. tried ≡ None →
         IsCleared path.entry.text.now (see fs.new))) }
-    ensures free { Seen F.disk (λ see. at (see fs.old).tree path.entry.text.now ≡ None →
+    ensures free { OnDisk F.disk (λ see. at (see fs.old).tree path.entry.text.now ≡ None →
         IfOk result IsSome) }
 {
     match create_at(fs, path, mode)? {
@@ -73,9 +73,9 @@ fn locked<F: FileSystem>(
     path: DraftPath<'_>,
     file: &F::File,
 ) -> Result<Option<FileKey>, FileFault>
-    requires { Seen F.disk (λ see. IsFile (F.key file.now) (at (see fs.old).tree path.text.now)) }
-    ensures same { Seen F.disk (λ see. see fs.new ≡ see fs.old) }
-    ensures key { Seen F.disk (λ _. result ≡ Ok (Some (F.key file.now))) }
+    requires { OnDisk F.disk (λ see. IsFile (F.key file.now) (at (see fs.old).tree path.text.now)) }
+    ensures same { OnDisk F.disk (λ see. see fs.new ≡ see fs.old) }
+    ensures key { OnDisk F.disk (λ _. result ≡ Ok (Some (F.key file.now))) }
 {
     // A system without locks is no error.
     let _ = fs.lock(file);
@@ -90,7 +90,7 @@ fn locked<F: FileSystem>(
 
 /// The identity of an open file, if a path names that file.
 fn key_at<F: FileSystem>(fs: &F, path: &str, file: &F::File) -> Result<Option<FileKey>, FileFault>
-    ensures { Seen F.disk (λ see. IsFile (F.key file.now) (at (see fs.now).tree path.now) →
+    ensures { OnDisk F.disk (λ see. IsFile (F.key file.now) (at (see fs.now).tree path.now) →
         result ≡ Ok (Some (F.key file.now))) }
 {
     let key = fs.key_of(file)?;
@@ -105,10 +105,10 @@ fn key_at<F: FileSystem>(fs: &F, path: &str, file: &F::File) -> Result<Option<Fi
 fn clear<F: FileSystem>(fs: &mut F, path: DraftPath<'_>, files: &RunFiles) -> Result<(), FileFault>
     requires { HasFiles F.disk fs.old files.now.written.items }
     ensures leaves { Prepares F.disk path.entry.text.now files.now fs.old fs.new result }
-    ensures read { Seen F.disk (λ see. (key : FileKey) →
+    ensures read { OnDisk F.disk (λ see. (key : FileKey) →
         IsFile key (at (see fs.old).tree path.entry.text.now) →
         Contains (keys_in files.now.read) key → IsErr result) }
-    ensures gone { Seen F.disk (λ see. OnOk result (IsCleared path.entry.text.now (see fs.new))) }
+    ensures gone { OnDisk F.disk (λ see. OnOk result (IsCleared path.entry.text.now (see fs.new))) }
 {
     match fs.look(path.text) {
         None => Ok(()),
@@ -131,10 +131,10 @@ fn clear_other<F: FileSystem>(
     path: DraftPath<'_>,
     files: &RunFiles,
 ) -> Result<(), FileFault>
-    requires { Seen F.disk (λ see. (key : FileKey) →
+    requires { OnDisk F.disk (λ see. (key : FileKey) →
         IsFile key (at (see fs.old).tree path.text.now) → ⊥) }
     ensures leaves { LeavesFiles F.disk files.now fs.old fs.new }
-    ensures gone { Seen F.disk (λ see. OnOk result (IsCleared path.entry.text.now (see fs.new))) }
+    ensures gone { OnDisk F.disk (λ see. OnOk result (IsCleared path.entry.text.now (see fs.new))) }
 {
     if is_read(fs, path.text, &files.read) {
         return Err(FileFault::Other);
@@ -159,9 +159,9 @@ fn clear_file<F: FileSystem>(
     left: FileKey,
 ) -> Result<(), FileFault>
     ensures clears { Clears F.disk path.entry.text.now fs.old fs.new }
-    ensures gone { Seen F.disk (λ see. IsFile left (at (see fs.old).tree path.entry.text.now) →
+    ensures gone { OnDisk F.disk (λ see. IsFile left (at (see fs.old).tree path.entry.text.now) →
         OnOk result (IsCleared path.entry.text.now (see fs.new))) }
-    ensures cause { Seen F.disk (λ see. IsFile left (at (see fs.old).tree path.entry.text.now) →
+    ensures cause { OnDisk F.disk (λ see. IsFile left (at (see fs.old).tree path.entry.text.now) →
         HasCause (see fs.new).failed result) }
 {
     let (is_there, _held) = locked_left(fs, path.text, left)?;
@@ -177,9 +177,9 @@ fn locked_left<F: FileSystem>(
     path: &str,
     left: FileKey,
 ) -> Result<(bool, Option<F::File>), FileFault>
-    ensures there { Seen F.disk (λ see. IsFile left (at (see fs.now).tree path.now) →
+    ensures there { OnDisk F.disk (λ see. IsFile left (at (see fs.now).tree path.now) →
         IfOk result (λ found. found.0 ≡ true)) }
-    ensures memory { Seen F.disk (λ see. IsFile left (at (see fs.now).tree path.now) →
+    ensures memory { OnDisk F.disk (λ see. IsFile left (at (see fs.now).tree path.now) →
         IfErr result (λ fault. fault ≡ FileFault.Memory)) }
 {
     match fs.open(path) {
@@ -197,8 +197,8 @@ fn locked_left<F: FileSystem>(
 /// Removes a leftover at a draft's path, if it is still there.
 fn remove_left<F: FileSystem>(fs: &mut F, path: DraftPath<'_>) -> Result<(), FileFault>
     ensures clears { Clears F.disk path.entry.text.now fs.old fs.new }
-    ensures gone { Seen F.disk (λ see. OnOk result (IsCleared path.entry.text.now (see fs.new))) }
-    ensures cause { Seen F.disk (λ see. HasCause (see fs.new).failed result) }
+    ensures gone { OnDisk F.disk (λ see. OnOk result (IsCleared path.entry.text.now (see fs.new))) }
+    ensures cause { OnDisk F.disk (λ see. HasCause (see fs.new).failed result) }
 {
     match remove_at(fs, path) {
         Err(FileFault::NotFound) => Ok(()),

@@ -1,7 +1,7 @@
 // The calls that change a file system, each with a decent step.
 ghost use Rattle.std.specs.Prelude.{◌≡◌, ◌≤◌, ◌<◌, ℕ, List, IfOk, IfSome, length, string_bytes, take};
 ghost use Rattle.cweb_system.specs.declared.node.FileKey.{FileKey};
-ghost use Rattle.cweb_system.specs.Steps.{Changes, Seen};
+ghost use Rattle.cweb_system.specs.Steps.{Changes, OnDisk};
 ghost use Rattle.cweb_system.specs.Tree.{Appends, IsFile, MayCreate, Removes, Renames, SetsMode, at};
 ghost use Rattle.cweb_system.specs.inner.Drafts.{IsDraftAlone, IsUnread};
 ghost use Rattle.cweb_system.specs.inner.Drafts.{IsAlone, KeepsDecent};
@@ -18,7 +18,7 @@ pub fn create_at<F: FileSystem>(
 ) -> Result<Option<F::File>, FileFault>
     ensures decent { (read : List FileKey) → KeepsDecent F.disk read fs.old fs.new }
     ensures changes { Changes F.disk (MayCreate F.key path.entry.text.now) fs.old fs.new result }
-    ensures alone { Seen F.disk (λ see. IfOk result (λ made.
+    ensures alone { OnDisk F.disk (λ see. IfOk result (λ made.
         IfSome made (λ file. IsAlone (F.key file) path.entry.text.now (see fs.new).tree))) }
 {
     fs.create(path.text, mode)
@@ -34,10 +34,10 @@ pub fn remove_at<F: FileSystem>(fs: &mut F, path: DraftPath<'_>) -> Result<(), F
 
 /// Sets the permissions of a draft.
 pub fn set_draft_mode<F: FileSystem>(fs: &mut F, file: &F::File, mode: u32) -> Result<(), FileFault>
-    requires { Seen F.disk (λ see. IsDraftAlone (F.key file.now) (see fs.old).tree) }
+    requires { OnDisk F.disk (λ see. IsDraftAlone (F.key file.now) (see fs.old).tree) }
     ensures decent { (read : List FileKey) → KeepsDecent F.disk read fs.old fs.new }
     ensures changes { Changes F.disk (λ _. SetsMode (F.key file.now) mode) fs.old fs.new result }
-    ensures alone { Seen F.disk (λ see. (path : List ℕ) → IsAlone (F.key file.now) path
+    ensures alone { OnDisk F.disk (λ see. (path : List ℕ) → IsAlone (F.key file.now) path
         (see fs.old).tree → IsAlone (F.key file.now) path (see fs.new).tree) }
 {
     fs.set_mode(file, mode)
@@ -45,12 +45,12 @@ pub fn set_draft_mode<F: FileSystem>(fs: &mut F, file: &F::File, mode: u32) -> R
 
 /// Renames a draft. What it replaces isn't the draft itself.
 pub fn rename_draft<F: FileSystem>(fs: &mut F, draft: &Draft<F::File>) -> Result<(), FileFault>
-    requires there { Seen F.disk (λ see. IsFile draft.now.key
+    requires there { OnDisk F.disk (λ see. IsFile draft.now.key
         (at (see fs.old).tree (string_bytes draft.now.path))) }
-    requires own { Seen F.disk (λ see. IsFile draft.now.key
+    requires own { OnDisk F.disk (λ see. IsFile draft.now.key
         (at (see fs.old).tree (string_bytes draft.now.name)) → ⊥) }
     ensures decent { (read : List FileKey) →
-        Seen F.disk (λ see. IsUnread read (string_bytes draft.now.name) (see fs.old).tree) →
+        OnDisk F.disk (λ see. IsUnread read (string_bytes draft.now.name) (see fs.old).tree) →
         KeepsDecent F.disk read fs.old fs.new }
     ensures changes { Changes F.disk (λ _. Renames (string_bytes draft.now.path)
         (string_bytes draft.now.name)) fs.old fs.new result }
@@ -64,7 +64,7 @@ pub fn write_to<F: FileSystem>(
     file: &mut F::File,
     piece: &[u8],
 ) -> Result<usize, FileFault>
-    requires { Seen F.disk (λ see. IsDraftAlone (F.key file.old) (see fs.old).tree) }
+    requires { OnDisk F.disk (λ see. IsDraftAlone (F.key file.old) (see fs.old).tree) }
     ensures decent { (read : List FileKey) → KeepsDecent F.disk read fs.old fs.new }
     ensures within { IfOk result (λ n. n ≤ length piece.now) }
     ensures some { 0 < length piece.now → IfOk result (λ n. 0 < n) }

@@ -2,7 +2,7 @@
 ghost use Rattle.std.specs.Prelude.{◌≡◌, Contains, Some, Ok, IsTrue, IsErr};
 ghost use Rattle.cweb_system.specs.declared.node.FileKey.{FileKey};
 ghost use Rattle.cweb_system.specs.FileSet.{keys_in};
-ghost use Rattle.cweb_system.specs.Steps.{Seen};
+ghost use Rattle.cweb_system.specs.Steps.{OnDisk};
 ghost use Rattle.cweb_system.specs.Tree.{IsFile, at};
 ghost use Rattle.cweb_system.specs.inner.Drafts.{IsReplaceable};
 ghost use Rattle.cweb_system.specs.inner.Written.{HasFiles};
@@ -28,15 +28,15 @@ pub enum Way {
 /// How an output of this name is written. A file that the run has read, or wrote under another name, is refused.
 pub fn way_to<F: FileSystem>(fs: &F, name: &str, files: &RunFiles) -> Result<Way, FileFault>
     requires { HasFiles F.disk fs.now files.now.written.items }
-    ensures read { Seen F.disk (λ see. (key : FileKey) →
+    ensures read { OnDisk F.disk (λ see. (key : FileKey) →
         IsFile key (at (see fs.now).tree name.now) →
         Contains (keys_in files.now.read) key → IsErr result) }
-    ensures free { Seen F.disk (λ see.
+    ensures free { OnDisk F.disk (λ see.
         IsReplaceable files.now name.now (at (see fs.now).tree name.now) →
         (IsErr result → ⊥) × ((key : FileKey) → result ≡ Ok (Way.Device key) → ⊥)) }
-    ensures folder { Seen F.disk (λ see. (key : FileKey) →
+    ensures folder { OnDisk F.disk (λ see. (key : FileKey) →
         at (see fs.now).tree name.now ≡ Some (Node.Folder key) → IsErr result) }
-    ensures device { Seen F.disk (λ see. (key : FileKey) →
+    ensures device { OnDisk F.disk (λ see. (key : FileKey) →
         at (see fs.now).tree name.now ≡ Some (Node.Device key) → result ≡ Ok (Way.Device key)) }
 {
     match fs.look(name) {
