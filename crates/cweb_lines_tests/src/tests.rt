@@ -85,7 +85,7 @@ fn write_all<S: Shelf>(
     shelf: &mut S,
     sink: &mut TrialSink,
 ) -> Result<(), Stop>
-    requires { S.failed shelf.old + 1 < 2 ^ 64 }
+    requires { (S.model shelf.old).failed + 1 < 2 ^ 64 }
 {
     holds(rt, sink.failed < 2);
     write_merged(merger, shelf, sink)
@@ -99,7 +99,7 @@ fn write_buffered<S: Shelf>(
     sink: &mut TrialSink,
     room: usize,
 ) -> Result<(), Stop>
-    requires { S.failed shelf.old + 1 < 2 ^ 64 }
+    requires { (S.model shelf.old).failed + 1 < 2 ^ 64 }
 {
     holds(rt, sink.failed < 2);
     write_merged_in_chunks(merger, shelf, sink, room)
