@@ -1,5 +1,5 @@
 // A client that relies on the headlines: it runs each program on one web in memory, and its contracts have the bytes.
-ghost use Rattle.std.specs.Prelude.{◌≡◌, IfOk};
+ghost use Rattle.std.specs.Prelude.{◌≡◌, IfOk, IfSome};
 ghost use Rattle.cweb_surface_tests.specs.inner.Hello.{IsMergedHello, IsRuleOfHello, IsTangledHello, NoneFailed};
 ghost use Rattle.cweb_surface_tests.specs.inner.Hello.{files_of, hello_contents, text_of};
 
@@ -30,7 +30,8 @@ pub struct Printed {
 
 /// A shelf with hello.w alone.
 fn hello_shelf(alloc: Global) -> Result<MemoryShelf, AllocError>
-    ensures { IfOk result (λ shelf. ⟦<MemoryShelf as Shelf>⟧.texts shelf ≡ hello_contents) }
+    ensures { IfOk result (λ shelf. IfSome (⟦<MemoryShelf as Shelf>⟧.model shelf).contents
+        (λ seen. seen.texts ≡ hello_contents)) }
 {
     let mut shelf = MemoryShelf::new(alloc);
     shelf.put("hello.w", HELLO)?;
