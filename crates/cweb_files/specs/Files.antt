@@ -7,11 +7,6 @@ pub record File : Type 0 where
   pub name : List ℕ
   pub bytes : List ℕ
 
--- Why `start_file` was refused: out of memory, or the device failed.
-pub data Refused : Type 0 where
-  no_memory : Refused
-  no_device : Refused
-
 -- The files without the one of this name.
 abbrev pub without : List ℕ → List File → List File
 without name files = filter (λ file. not (bytes_eq file.name name)) files

@@ -1,14 +1,15 @@
 -- What is known of a sink or of bins, and how calls change it.
 use Rattle.std.specs.Prelude.{◌≡◌, ◌+◌, ℕ, List, [], ◌++◌, Option, Some, None, IfSome, IsSome}
 use Rattle.std.specs.Prelude.{option_map}
-use Rattle.cweb_files.specs.Files.{File, Refused, with_bytes}
+use Rattle.cweb_files.specs.Files.{File, with_bytes}
+use Rattle.cweb_files.specs.declared.bins.BinFault.{BinFault}
 
 -- The state of bins besides the draft's bytes: the files in commit order, the name of the draft if there is one, and
 -- why the last `start_file` was refused, if it was.
 pub record Beside : Type 0 where
   pub files : List File
   pub draft : Option (List ℕ)
-  pub refused : Option Refused
+  pub refused : Option BinFault
 
 -- The bytes written so far, which are those of the draft, and what is beside them. A call that leaves no draft leaves no
 -- bytes.
@@ -43,7 +44,7 @@ with_draft name now =
     record { bytes = []; beside = record { files = now.beside.files; draft = Some name; refused = None } }
 
 -- There is no draft, and an earlier one is discarded. `why` is why the last `start_file` was refused, if it was.
-abbrev pub without_file : Option Refused → SinkContents → SinkContents
+abbrev pub without_file : Option BinFault → SinkContents → SinkContents
 without_file why now =
     record { bytes = []; beside = record { files = now.beside.files; draft = None; refused = why } }
 

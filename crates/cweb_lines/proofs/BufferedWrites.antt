@@ -36,14 +36,13 @@ failed_next done fails = ap (λ (sink : SinkModel). sink.failed) fails.is ∙ ap
 pub held : (room : ℕ) (old so : SoFar) (all now : List Event) (Wrote : List ℕ → Type 0) →
     HasWritten old so all now Wrote
     → (line : Line) (so' : SoFar) (later : List Event) → EmitsLines (line ∷ []) so so' now later
-    → (buffer more : List ℕ) →
-    buffer ≡ [] → more ≡ buffer ++ line.bytes ++ 10 ∷ [] → BuffersLines room old so' all later Wrote more
-held room old so all now Wrote g line so' later next buffer more none is = record {
+    → (buffer : List ℕ) → buffer ≡ line.bytes ++ 10 ∷ [] → BuffersLines room old so' all later Wrote buffer
+held room old so all now Wrote g line so' later next buffer is = record {
   done = g.lines;
   buffered = line ∷ [];
   yields = yields_both g.lines (line ∷ []) old so so' all now later g.yields next;
   wrote = g.wrote;
-  piece_is = simp (is, none);
+  piece_is = simp is;
   some = omega arith;
   within = λ more. absurd (omega (arith, more));
 }

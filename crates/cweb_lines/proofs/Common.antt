@@ -99,7 +99,7 @@ pub use Rattle.cweb_lines.specs.inner.Writing.{HasWritten, FailsAmong}
 pub use Rattle.cweb_lines.specs.laws.Laws.{is_change_code}
 pub use Rattle.cweb_lines.specs.laws.Laws.{IncludeLinesAreReplaced, Includes, LinesComeApart}
 pub use Rattle.cweb_lines.specs.laws.Laws.{IsPlainSplice, Splice, spliced, web_lines}
-pub use Rattle.cweb_lines.specs.laws.Laws.{UnmatchedEntriesAreReported, PrintedMergesComeAgain, ChangesSplice}
+pub use Rattle.cweb_lines.specs.laws.Laws.{UnmatchedEntriesAreReported, ChangesSplice}
 pub use Rattle.cweb_lines.specs.laws.Laws.{WebsWithoutIncludesAreTheirOwnLines}
 pub use Rattle.cweb_lines.specs.laws.MergeOutcome.{outcome_of_events}
 pub use Rattle.cweb_lines.specs.laws.MergeOutcome.{followed_by, only_lines, MergeOutcome, outcome_of_lines, placed}

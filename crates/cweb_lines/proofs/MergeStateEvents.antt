@@ -1,5 +1,5 @@
 -- The events to come of a merger, by its stack, stage, files and faults.
-use Rattle.cweb_lines.proofs.Common.{rules, OnlyOpens, OnlyReports, Some, Bool, true, false, if◌then◌else◌, ◌≡◌, ◌≤◌, ◌<◌, ◌+◌, ◌-◌, ℕ, zero, suc, get_or, List, [], ◌∷◌, ◌++◌, Option, None, refl, sym, ◌∙◌, ap, arith, length, length-append, le-max_left, le-max_right, max-le, Place, WaitingEntry, at_place, Found, World, lines_found, names_found, contents_found, optional_string_bytes, SourceLine, lines_in, Event, Thing, fault, raws, seek, started, EmitsLines, NothingLeft, events_to_come, so_far_of, things_of, opened_file_names, IsSettled, begun_stage, change_in, files_begun, stage_for, floor_of, pending_in, things_below, things_in, TakenCountersModel, OpensSource, StaysBelow, StopsAbove, TakesAbove, TakesFirst, TopStops, lines_at, lines_left, things_above, merge, merge_end, merge_next, SourceFault, NoMatch, MergeState, Stack, Change, Stage, Seeking, Waiting, Changing, Stop, LineAt, OpenSource, counters_of, over-none}
+use Rattle.cweb_lines.proofs.Common.{rules, OnlyOpens, OnlyReports, Some, Bool, true, false, if◌then◌else◌, ◌≡◌, ◌≤◌, ◌<◌, ◌+◌, ◌-◌, ℕ, zero, suc, get_or, List, [], ◌∷◌, ◌++◌, Option, None, refl, sym, ◌∙◌, ap, arith, length, length-append, le-max_left, le-max_right, max-le, Place, WaitingEntry, at_place, World, optional_string_bytes, SourceLine, lines_in, Event, Thing, fault, raws, EmitsLines, NothingLeft, events_to_come, so_far_of, things_of, opened_file_names, IsSettled, change_in, files_begun, stage_for, floor_of, pending_in, things_below, things_in, TakenCountersModel, OpensSource, StaysBelow, StopsAbove, TakesAbove, TakesFirst, TopStops, lines_at, lines_left, things_above, merge, merge_end, merge_next, SourceFault, NoMatch, MergeState, Stack, Change, Stage, Seeking, Waiting, Changing, Stop, LineAt, OpenSource, counters_of, over-none}
 use Rattle.cweb_lines.specs.inner.Faults.{files_of_faults}
 use Rattle.cweb_lines.proofs.Merges.{state, yields_fault}
 
@@ -145,16 +145,3 @@ pub begun : {R : Type 0} (left : R
     stack.depth ≡ 1 → stack.texts ≡ Some text ∷ rest → text.depth ≡ 1 → text.may_match ≡ true
     → things_above left 0 stack [] ≡ raws 1 true (lines_left left text)
 begun left stack text rest depth texts deep matches = search rules
-
-pub begun_coming : {R : Type 0} (world : World) (left : R → List ℕ) (stack : Stack R) (change : Option Found)
-    (stage : Stage) (lines : List SourceLine) (first : List ℕ) (files : ℕ) (text : List ℕ) →
-    stage ≡ begun_stage change → lines ≡ lines_found change
-    → files ≡ suc (length (names_found change)) → things_above left 0 stack [] ≡ raws 1 true (lines_in 0 text)
-    → merge world (state (things_in left stage lines stack) (pending_in stage first) (change_in stage lines) files)
-    ≡ merge world (started text (contents_found change))
-begun_coming world left stack None stage lines first files text at are count things = (λ i. merge world
-    (state (things_in left (at i) lines stack) (pending_in (at i) first) (change_in (at i) lines) (count i)))
-    ∙ ap (λ (ts : List Thing). merge world (state ts None [] 1)) things
-begun_coming world left stack (Some found) stage lines first files text at are count things = (λ i. merge world
-    (state (things_in left (at i) lines stack) (pending_in (at i) first) (change_in (at i) lines) (count i)))
-    ∙ (λ i. merge world (state (seek ∷ things i) None (are i) 2))

@@ -127,11 +127,6 @@ module _ (old new : SoFar) (all later : List Event) (count : new.count ≡ old.c
   pub yields_nothing : all ≡ later → new.faults ≡ old.faults → new.names ≡ old.names → EmitsLines [] old new all later
   yields_nothing whole faults names = search rules
 
-pub include_long : (line : List ℕ) → is_include_line line ≡ true → 2 ≤ length line
-include_long [] is = absurd (cc)
-include_long (a ∷ []) is = absurd (cc)
-include_long (a ∷ b ∷ rest) is = omega arith
-
 pub empty_is : (xs : List ℕ) → (length xs == 0) ≡ true → xs ≡ []
 empty_is [] is = refl
 empty_is (x ∷ xs) is = absurd (grind (arith, nat_tests))

@@ -1,5 +1,5 @@
 -- Calls that may read, one after another. Each but the last has read without a fault, so the shelf is as before.
-use Rattle.cweb_lines.proofs.Common.{rules, ◌≡◌, ◌∙◌, ◌++◌, ℕ, List, [], Option, Some, refl, sym, ap, so_far_of, opened_file_names, Memory, OnlyReports, SourceFault, MergeState, AppendsPassedLines, AreReadersKnown, Line, LineAt, Stop, Result, Ok, Err, IfErr}
+use Rattle.cweb_lines.proofs.Common.{rules, ◌≡◌, ◌∙◌, ◌++◌, ℕ, List, [], Some, refl, sym, ap, so_far_of, opened_file_names, Memory, OnlyReports, SourceFault, MergeState, AppendsPassedLines, AreReadersKnown, Line, LineAt, Stop, Result, Ok, Err, IfErr}
 use Rattle.cweb_files.specs.Shelves.{Observed, ShelfContents, ShelfModel}
 use Rattle.cweb_files.specs.declared.place.FileId.{FileId}
 use Rattle.cweb_input.specs.surface.ReaderNames.{BlamesFile, ReadsShelf, shelf_after}

@@ -3,7 +3,6 @@
 ghost use Rattle.cweb_lines.specs.laws.Laws.{ChangesSplice};
 ghost use Rattle.cweb_lines.specs.laws.Laws.{UnmatchedEntriesAreReported, IncludeLinesAreReplaced};
 ghost use Rattle.cweb_lines.specs.laws.Laws.{LinesComeApart};
-ghost use Rattle.cweb_lines.specs.laws.Laws.{PrintedMergesComeAgain};
 ghost use Rattle.cweb_lines.specs.laws.Laws.{WebsWithoutIncludesAreTheirOwnLines};
 ghost use Rattle.cweb_lines.specs.laws.Total.{HasOneAnswer};
 
@@ -15,11 +14,6 @@ pub fn merge_has_one_answer()
 /// A web without include lines and change file merges to its own lines, in order, numbered and without a fault.
 pub fn web_without_includes_is_its_own_lines()
     ensures { WebsWithoutIncludesAreTheirOwnLines }
-{}
-
-/// The output of a merge, merged again without a change file, stays as it is, without a fault. It has no include line.
-pub fn printed_merge_comes_again()
-    ensures { PrintedMergesComeAgain }
 {}
 
 /// Without a change file each line is independent. A plain line is emitted. An include line is a fault if it has no

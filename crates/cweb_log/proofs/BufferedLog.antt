@@ -1,5 +1,5 @@
 -- Consecutive log output, buffered and written.
-use Rattle.cweb_log.proofs.Common.{◌≡◌, ◌<◌, ◌≤◌, ◌+◌, ℕ, suc, List, [], ◌++◌, length, take, drop, get_or, refl, sym, ◌∙◌, ap, append_assoc, append-nil, subst, flat_map, take_all, Result, Ok, Err, IsErr, FailsWithin, Logs, logged, log_failed, Buffers, AppendsToLog, SinkModel, Wrote, written}
+use Rattle.cweb_log.proofs.Common.{◌≡◌, ◌<◌, ◌≤◌, ◌+◌, ℕ, suc, List, [], ◌++◌, length, take, drop, get_or, sym, ◌∙◌, ap, append_assoc, append-nil, subst, flat_map, take_all, Result, Ok, Err, IsErr, FailsWithin, Logs, logged, log_failed, Buffers, AppendsToLog, SinkModel, Wrote, written}
 use Rattle.cweb_files.proofs.Appending.{fails_in, fails_then, written_none, written_then}
 use Rattle.cweb_files.proofs.JoinedParts.{flat_at, flat_more}
 
@@ -44,22 +44,6 @@ passed (Ok x) held bytes now before mid after is none wrote = record {
   is = written_then held bytes before is wrote;
 }
 passed (Err e) held bytes now before mid after is none fails = fails_then held is fails
-
--- They could not be written.
-pub pass_failed : {B F : Type 0} (r : Result B F) {held : List ℕ} (bytes now : List ℕ)
-    {before after : SinkModel} → FailsWithin held before after → IsErr r
-    → AppendsToLog bytes before after held now r
-pass_failed (Ok x) bytes now fails is = absurd (cc)
-pass_failed (Err f) bytes now fails is = fails_in bytes fails
-
--- Bytes became pending, maybe after the earlier ones were written.
-pub flushed : (held : List ℕ) {now : List ℕ} {before mid : SinkModel} → mid ≡ written held before → now ≡ []
-    → Buffers [] before mid held now
-flushed held is none = record { done = held; whole = ap (λ (t : List ℕ). held ++ t) (sym none); is = is }
-
-pub pending : {bytes held between now : List ℕ} {before mid : SinkModel}
-    → Buffers [] before mid held between → now ≡ between ++ bytes → Buffers bytes before mid held now
-pending {mid = mid} came is = buffered_on came (record { done = []; whole = sym is; is = written_none mid })
 
 -- A fault at an element is a fault of the list.
 pub fails_at : {X : Type 0} (f : X → List ℕ) (xs : List X) (i : ℕ) (d : X) {before mid after : SinkModel}

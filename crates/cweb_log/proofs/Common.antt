@@ -51,7 +51,5 @@ pub use Rattle.cweb_log.specs.Log.{stop_line}
 pub use Rattle.cweb_log.specs.Items.{cycle_step, scan_item, name_item}
 pub use Rattle.cweb_log.specs.declared.options.Options.{Options}
 pub use Rattle.cweb_log.specs.declared.shown.Shown.{Shown}
-pub use Rattle.cweb_log.specs.inner.LogBuffer.{unwritten_bytes}
-pub use Rattle.cweb_log.specs.declared.log_buffer.LogBuffer.{LogBuffer}
 pub use Rattle.cweb_log.specs.inner.LogWriting.{Buffers, AppendsToLog}
 pub use Rattle.cweb_log.specs.surface.Options.{options_of}

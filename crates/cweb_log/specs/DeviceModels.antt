@@ -33,12 +33,8 @@ pub data Logs (text : List ℕ) (old new : SinkModel) : Type 0 where
   logged : new ≡ written text old → Logs text old new
   log_failed : FailsWithin text old new → Logs text old new
 
--- Each of two failure counts has room for one more failure.
-pub record SinkCountsFit (first second : ℕ) : Type 0 where
-  pub out : first + 1 < 2 ^ 64
-  pub log : second + 1 < 2 ^ 64
-
 -- The failure count of each device has room for one more failure.
 pub record CountsFit (seen : Devices) : Type 0 where
   pub shelf : seen.shelf.failed + 1 < 2 ^ 64
-  pub sinks : SinkCountsFit seen.out.failed seen.log.failed
+  pub out : seen.out.failed + 1 < 2 ^ 64
+  pub log : seen.log.failed + 1 < 2 ^ 64

@@ -1,5 +1,4 @@
 -- Definitions that only the functions of this crate cite.
-pub mod LogBuffer
 pub mod LogText
 pub mod LogWriting
 pub mod Log

@@ -13,8 +13,7 @@ mod log_text;
 mod names;
 mod stops;
 
-// writes, buffered without allocation
-mod log_buffer;
+// writes through a buffer
 mod writing;
 
 pub use log_text::{LogLine, LogText};

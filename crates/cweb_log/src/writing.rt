@@ -5,11 +5,18 @@ ghost use Rattle.cweb_files.specs.surface.Writes.{Wrote};
 ghost use Rattle.cweb_log.specs.DeviceModels.{Logs};
 ghost use Rattle.cweb_log.specs.Items.{line};
 ghost use Rattle.cweb_log.specs.Log.{stop_line};
+ghost use Rattle.cweb_log.specs.inner.Chunks.{joined_parts, part_bytes};
 ghost use Rattle.cweb_log.specs.inner.LogText.{items_of};
+ghost use Rattle.cweb_log.specs.inner.LogWriting.{AppendsToLog};
 
-use crate::log_buffer::LogBuffer;
+use crate::chunks::Part;
 use crate::log_text::{LogLine, LogText};
-use cweb_lines::{Sink, SinkFault, Stop};
+use arrayvec::ArrayVec;
+use cweb_lines::{Sink, SinkFault, Stop, write_all};
+use itoa::Buffer;
+
+/// Log bytes that aren't written yet.
+type LogBuffer = ArrayVec<u8, 4096>;
 
 /// Writes a text to the log. A text that fits the buffer takes one write.
 #[inline(never)]
@@ -18,11 +25,62 @@ pub fn write_log<L: Sink>(log: &mut L, text: LogText<'_>) -> Result<(), SinkFaul
     ensures { Wrote (flat_map line (items_of text.entry))
         (L.model log.old) (L.model log.new) result }
 {
-    let mut log_buffer = LogBuffer::new();
+    let mut buffer = LogBuffer::new();
     'chunks: for index in 0..text.chunks() {
-        log_buffer.add_chunk(log, &text.chunk(index))?;
+        append_chunk(&text.chunk(index), &mut buffer, log)?;
     }
-    log_buffer.pass_on(log)
+    write_all(log, buffer.as_slice())
+}
+
+/// Appends the parts of a chunk.
+fn append_chunk<L: Sink>(
+    parts: &[Part<'_>],
+    buffer: &mut LogBuffer,
+    log: &mut L,
+) -> Result<(), SinkFault>
+    requires { (L.model log.old).failed + 1 < 2 ^ 64 }
+    ensures { AppendsToLog (joined_parts parts.now) (L.model log.old) (L.model log.new)
+        buffer.old.items buffer.new.items result }
+{
+    'parts: for part in parts {
+        append_part(*part, buffer, log)?;
+    }
+    Ok(())
+}
+
+fn append_part<L: Sink>(
+    part: Part<'_>,
+    buffer: &mut LogBuffer,
+    log: &mut L,
+) -> Result<(), SinkFault>
+    requires { (L.model log.old).failed + 1 < 2 ^ 64 }
+    ensures { AppendsToLog (part_bytes part.entry) (L.model log.old) (L.model log.new)
+        buffer.old.items buffer.new.items result }
+{
+    match part {
+        Part::Text(text) => append(text, buffer, log),
+        Part::Number(number) => {
+            let mut digits = Buffer::new();
+            append(digits.format(number).as_bytes(), buffer, log)
+        }
+    }
+}
+
+/// Appends bytes. If they don't fit, the buffer is flushed first. What is longer than the buffer is written at once.
+fn append<L: Sink>(bytes: &[u8], buffer: &mut LogBuffer, log: &mut L) -> Result<(), SinkFault>
+    requires { (L.model log.old).failed + 1 < 2 ^ 64 }
+    ensures { AppendsToLog bytes.now (L.model log.old) (L.model log.new)
+        buffer.old.items buffer.new.items result }
+{
+    if let Ok(()) = buffer.try_extend_from_slice(bytes) {
+        return Ok(());
+    }
+    write_all(log, buffer.as_slice())?;
+    buffer.clear();
+    if let Ok(()) = buffer.try_extend_from_slice(bytes) {
+        return Ok(());
+    }
+    write_all(log, bytes)
 }
 
 /// Writes the line of a stop, and returns the exit status of such a run.

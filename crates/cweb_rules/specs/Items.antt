@@ -103,7 +103,7 @@ look_in_include t =
 
 -- Its closer or a section start ends a raw literal. `@@` is a unit.
 abbrev pub look_in_raw : List ℕ → List ℕ → Look
-look_in_raw sign t =
-    if begins sign t then Ends (length sign) Closed
+look_in_raw closer t =
+    if begins closer t then Ends (length closer) Closed
     else (if starts_section t then Ends 0 Cut
     else (if begins (codes "@@") t then Goes 2 else Goes 1))

@@ -92,9 +92,9 @@ abbrev pub name_match : Bool → List ℕ → RuleMatch
 name_match with_opener t =
     let r = reach look_in_name Cut (drop 2 t) in
     let size = 2 + reach_size r in
-    let sign = opener_after r.how (drop size t) in
-    rule_match (Occurrence (begins (codes "@(") t) r.units r.how (nat_lt 0 sign))
-    (if with_opener then size + sign else size)
+    let opener = opener_after r.how (drop size t) in
+    rule_match (Occurrence (begins (codes "@(") t) r.units r.how (nat_lt 0 opener))
+    (if with_opener then size + opener else size)
 
 -- The lexeme of a control code with this effect.
 abbrev pub effect_match : Effect → Bool → List ℕ → RuleMatch

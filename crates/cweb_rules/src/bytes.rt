@@ -197,11 +197,11 @@ pub fn nonempty_span_len(class: Class, text: &[u8]) -> usize
 }
 
 /// Whether a source begins with a given prefix.
-pub fn begins(sign: &[u8], text: &[u8]) -> bool
-    ensures value { result ≡ spec.begins sign.now text.now }
-    ensures within { IsTrue result → length sign.now ≤ length text.now }
+pub fn begins(prefix: &[u8], text: &[u8]) -> bool
+    ensures value { result ≡ spec.begins prefix.now text.now }
+    ensures within { IsTrue result → length prefix.now ≤ length text.now }
 {
-    text.starts_with(sign)
+    text.starts_with(prefix)
 }
 
 /// Whether the next byte is a newline. The end of the source counts as one.

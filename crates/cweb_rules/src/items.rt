@@ -120,11 +120,11 @@ fn look_in_include(text: &[u8]) -> Look
     Look::Goes(1)
 }
 
-fn look_in_raw(sign: &[u8], text: &[u8]) -> Look
-    ensures { result ≡ spec.look_in_raw sign.now text.now }
+fn look_in_raw(closer: &[u8], text: &[u8]) -> Look
+    ensures { result ≡ spec.look_in_raw closer.now text.now }
 {
-    if begins(sign, text) {
-        return Look::Ends(sign.len(), End::Closed);
+    if begins(closer, text) {
+        return Look::Ends(closer.len(), End::Closed);
     }
     if starts_section(text) {
         return Look::Ends(0, End::Cut);
@@ -148,7 +148,7 @@ impl Item<'_> {
             Item::LineComment => look_in_comment(at_line_end(text), 0, text),
             Item::Literal(quote) => look_in_literal(quote, text),
             Item::IncludedName => look_in_include(text),
-            Item::RawLiteral(sign) => look_in_raw(sign, text),
+            Item::RawLiteral(closer) => look_in_raw(closer, text),
         }
     }
 }
@@ -195,15 +195,15 @@ pub fn opener_len(text: &[u8]) -> usize
     ensures { IsSizeIn spec.opener_len text.now result }
 {
     let gap = span_len(Class::Gap, text);
-    let (_, sign) = text.split_at(gap);
-    let size = if begins(b"=", sign) {
+    let (_, rest) = text.split_at(gap);
+    let size = if begins(b"=", rest) {
         1
-    } else if begins(b"+=", sign) {
+    } else if begins(b"+=", rest) {
         2
     } else {
         return 0;
     };
-    if begins(b"=", sign.split_at(size).1) {
+    if begins(b"=", rest.split_at(size).1) {
         return 0;
     }
     gap + size

@@ -54,8 +54,8 @@ pub fn starts_raw(text: &[u8]) -> bool
     ensures { result ≡ spec.starts_raw text.now }
 {
     let prefix = raw_prefix(text);
-    let (_, sign) = text.split_at(prefix);
-    if !begins(b"R\"", sign) {
+    let (_, opener) = text.split_at(prefix);
+    if !begins(b"R\"", opener) {
         return false;
     }
     let (_, rest) = text.split_at(prefix + 2);

@@ -40,10 +40,10 @@ fn plain_in_literal(quote: u8, text: &[u8]) -> usize
     text.len()
 }
 
-fn plain_in_raw(sign: &[u8], text: &[u8]) -> usize
-    ensures { IsSizeIn (prefix_len (λ b. not (is_raw_special sign.now b))) text.now result }
+fn plain_in_raw(closer: &[u8], text: &[u8]) -> usize
+    ensures { IsSizeIn (prefix_len (λ b. not (is_raw_special closer.now b))) text.now result }
 {
-    match sign {
+    match closer {
         [first, ..] => len_before2(b'@', *first, text),
         [] => 0,
     }
@@ -60,7 +60,7 @@ impl Item<'_> {
             Item::Comment => len_before2(b'@', b'*', text),
             Item::Literal(quote) => plain_in_literal(quote, text),
             Item::IncludedName => len_before3(b'@', b'\n', b'>', text),
-            Item::RawLiteral(sign) => plain_in_raw(sign, text),
+            Item::RawLiteral(closer) => plain_in_raw(closer, text),
         }
     }
 }

@@ -106,22 +106,22 @@ pub use Rattle.cweb_store.specs.declared.parts.PartKind.{PartKind}
 pub use Rattle.cweb_store.specs.declared.parts.PartKind.TheVariants.{Unnamed}
 pub use Rattle.cweb_store.specs.surface.TokenModels.{token_model}
 pub use Rattle.cweb_texts.proofs.WordLemmas.{total-append}
-pub use Rattle.cweb_scan.specs.After.{Reading, after_lexeme, blank, stays_in_head, item, punctuator}
+pub use Rattle.cweb_scan.specs.Effects.{Reading, after_lexeme, blank, stays_in_head, item, punctuator}
 pub use Rattle.cweb_scan.specs.inner.ScanParts.{enter_in}
-pub use Rattle.cweb_scan.specs.After.{apply_effect, pass_control_text, emit_verbatim, define, pass_comment}
-pub use Rattle.cweb_scan.specs.After.{report_name_fault, use_name, open_name, name_in_context, emit_literal, on}
-pub use Rattle.cweb_scan.specs.After.{each_line_end, occurrence, line_end, comment_line_end, literal_unit}
+pub use Rattle.cweb_scan.specs.Effects.{apply_effect, pass_control_text, emit_verbatim, define, pass_comment}
+pub use Rattle.cweb_scan.specs.Effects.{report_name_fault, use_name, open_name, name_in_context, emit_literal, on}
+pub use Rattle.cweb_scan.specs.Effects.{each_line_end, occurrence, line_end, comment_line_end, literal_unit}
 pub use Rattle.cweb_scan.specs.inner.ScanParts.{line_end_in}
-pub use Rattle.cweb_scan.specs.After.{next_line, enter, line_end_token}
-pub use Rattle.cweb_scan.specs.Alone.{HasReadTokens, InPlainC, significant, is_hash, is_clean, token_of}
+pub use Rattle.cweb_scan.specs.Effects.{next_line, enter, line_end_token}
+pub use Rattle.cweb_scan.specs.Lexemes.{HasReadTokens, InPlainC, significant, is_hash, is_clean, token_of}
 pub use Rattle.cweb_scan.specs.inner.ScanParts.{code_token}
-pub use Rattle.cweb_scan.specs.Alone.{is_insignificant, ReadsAlone, doubled, literal_token, spelling_of, read_lines}
-pub use Rattle.cweb_scan.specs.Alone.{lexemes_in, lex, scanned}
+pub use Rattle.cweb_scan.specs.Lexemes.{is_insignificant, ReadsAlone, doubled, literal_token, spelling_of, read_lines}
+pub use Rattle.cweb_scan.specs.Lexemes.{lexemes_in, lex, scanned}
 pub use Rattle.cweb_scan.specs.inner.ScanParts.{scanned_of}
 pub use Rattle.cweb_scan.specs.laws.LexemePlaces.{lexemes}
 pub use Rattle.cweb_scan.specs.laws.Law.{next_match}
 pub use Rattle.cweb_scan.specs.laws.ReaderModel.{newline_prefixed}
-pub use Rattle.cweb_scan.specs.Alone.{Scanned}
+pub use Rattle.cweb_scan.specs.Lexemes.{Scanned}
 pub use Rattle.cweb_scan.specs.DirectiveTokens.{directive_of, directive_tokens, directive_after, is_punct, ends_line}
 pub use Rattle.cweb_scan.specs.DirectiveTokens.{some_include, is_last_blank}
 pub use Rattle.cweb_scan.specs.State.{is_next_line, is_c, directive, in_directive, names_include, name_occurrence}
@@ -142,7 +142,7 @@ pub use Rattle.cweb_scan.specs.inner.DirectiveInvariant.{in_open_part, IsTied}
 pub use Rattle.cweb_scan.specs.inner.MatchSteps.{Applies, effect_in, is_head, is_name_effect, reads_c, reads_literals}
 pub use Rattle.cweb_scan.specs.inner.MatchSteps.{IsPast, ended_as, unit_state, reads_names, starts_name}
 pub use Rattle.cweb_scan.specs.inner.MatchSteps.{ends_in_line, needs_two}
-pub use Rattle.cweb_scan.specs.inner.MatchSteps.{literals_in_part, AppliesOver, passed}
+pub use Rattle.cweb_scan.specs.inner.MatchSteps.{AppliesOver, passed}
 pub use Rattle.cweb_scan.specs.inner.Plain.{TakesPlain, IsPlainC, IsPlainToken}
 pub use Rattle.cweb_scan.specs.inner.ReaderModel.{ReaderModel, OpenItem, Between, Pending, is_pending}
 pub use Rattle.cweb_scan.specs.inner.ReaderModel.{pending_text, pending_places}

@@ -70,7 +70,3 @@ pub mod Walked
 pub mod Adding
 pub mod SmallSteps
 pub mod CountedLexemes
-pub mod MarkedUses
-pub mod OpeningCodes
-pub mod BegunParts
-pub mod WholeParts

@@ -49,11 +49,6 @@ line_taken old mid new line n lines begins took = by old.begun refl
     by false h = first_taken old mid new line lines h (begins.first h).1
         (subst (λ k. TakesBytes (drop k line.bytes) mid new) (begins.first h).0 took)
 
--- The whole source was read once the open item has ended.
-pub source_read : (h : ReaderModel) → h.begun ≡ true → (read_after h []).state ≡ source_ended h
-source_read h begun = ap (λ v. (elim v as (λ w. Reading)
-    [ false ↦ read_lines [] | true ↦ read_on h (places []) (newline_prefixed []) ]).state) begun
-
 ended-weight : (i : OpenItem) (s : ScanState) (g : Bool)
     → (let h : ReaderModel = record { state = s; item = i; begun = g }
     in weight (source_ended h) ≤ cost h)

@@ -9,16 +9,6 @@ pub record TakesFirst (line rest : List ℕ) (old new : ReaderModel) : Type 0 wh
   pub taken : TakesPrefix size line old new
   pub last : is_pending new.item ≡ true → length rest ≡ 0
 
-pub prefix_goes_on : (n : ℕ) (line rest after : List ℕ) (old mid new : ReaderModel) → after ≡ drop n rest
-    → TakesFirst line rest old mid → MakesProgress n rest mid new → TakesFirst line after old new
-prefix_goes_on n line rest after old mid new is f t = record {
-  size = f.size + n;
-  rest_is = is ∙ ap (drop n) f.rest_is ∙ sym (drop-sum f.size n line);
-  taken = takes_both f.size n line old mid new f.taken
-      (subst (λ (u : List ℕ). TakesPrefix n u mid new) f.rest_is t.taken);
-  last = λ e. omega (arith, t.last e, ap (λ (u : List ℕ). length u) is, length-drop n rest);
-}
-
 pub prefix_line : (line rest : List ℕ) (old new : ReaderModel) → IsLine line → TakesFirst line rest old new
     → IsLine rest
 prefix_line line rest old new h f = subst IsLine (sym f.rest_is) (IsLine-drop f.size line h)

@@ -1,5 +1,5 @@
 -- Lexemes over some lines: each is one slice of the source.
-use Rattle.cweb_scan.proofs.Common.{◌≡◌, ◌≤◌, ◌<◌, ℕ, suc, ◌+◌, ◌*◌, Bool, true, false, List, [], ◌∷◌, ◌++◌, length, take, drop, refl, ap, sym, ◌∙◌, subst, arith, if◌then◌else◌, length-append, append_assoc, append-nil, take-append-add, drop-append-add, drop_all, Place, begins, is_line_end, at_line_ends, reach, reach_size, RuleMatch, Cut, IsLine, IsLine-take, opens_in, Reading, each_line_end, next_line, enter_in, item, after_lexeme, lex, next_match, ScanState, weight, AppliesOver, passed, ReaderModel, MakesProgress, BeginsLine, Between, Pending, holding, with_line, IsPending, IsStored, item_of, is_pending, is_between, drop-append-le, length-drop, get_or, ends-append, Look, and_parts, and_from, ◌==◌, HasItemRoom, move_to, reads_literals, literals_in_part}
+use Rattle.cweb_scan.proofs.Common.{◌≡◌, ◌≤◌, ◌<◌, ℕ, suc, ◌+◌, ◌*◌, Bool, true, false, List, [], ◌∷◌, ◌++◌, length, take, drop, refl, ap, sym, ◌∙◌, subst, arith, if◌then◌else◌, length-append, append_assoc, append-nil, take-append-add, drop-append-add, drop_all, Place, begins, is_line_end, at_line_ends, reach, reach_size, RuleMatch, Cut, IsLine, IsLine-take, opens_in, Reading, each_line_end, next_line, enter_in, item, after_lexeme, lex, next_match, ScanState, weight, AppliesOver, passed, ReaderModel, MakesProgress, BeginsLine, Between, Pending, holding, with_line, IsPending, IsStored, item_of, is_pending, is_between, drop-append-le, length-drop, get_or, ends-append, Look, and_parts, and_from, ◌==◌, HasItemRoom, move_to, reads_literals}
 use Rattle.cweb_scan.specs.inner.Room.{CanEmit}
 use Rattle.cweb_scan.specs.declared.reader.open.Open as code
 use Rattle.cweb_scan.specs.declared.reader.open.Open.TheVariants as kinds
@@ -53,19 +53,6 @@ moved_room n (p ∷ ps) s h = moved_room n ps (move_to p s) (record {
   for_a_part = h.for_a_part;
   for_an_occurrence = h.for_an_occurrence;
   for_a_section = h.for_a_section;
-})
-
--- A literal may be emitted in a part.
-pub part_room : (h v : ReaderModel) → v ≡ h → reads_literals h.state.context ≡ true → HasItemRoom 2 h.state
-    → CanEmit 1 v.state
-part_room h v is reads room = subst (λ (k : ReaderModel). CanEmit 1 k.state) (sym is) (record {
-  part = literals_in_part h.state.context reads;
-  room = record {
-    for_tokens = omega (arith, room.for_tokens);
-    for_a_part = room.for_a_part;
-    for_an_occurrence = room.for_an_occurrence;
-    for_a_section = room.for_a_section;
-  };
 })
 
 -- An item that its line leaves open.

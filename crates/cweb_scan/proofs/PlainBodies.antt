@@ -4,7 +4,7 @@ use Rattle.cweb_rules.specs.Bytes.{is_line_end}
 use Rattle.cweb_rules.specs.declared.items.Item.{Item}
 use Rattle.cweb_rules.specs.inner.Looks.{look_of}
 use Rattle.cweb_rules.proofs.UnitNewlines.{units-prefix}
-use Rattle.cweb_scan.specs.After.{next_line}
+use Rattle.cweb_scan.specs.Effects.{next_line}
 use Rattle.cweb_scan.proofs.Ends.{item-some}
 use Rattle.cweb_scan.proofs.FurtherLiterals.{HasNone, none_apart}
 use Rattle.cweb_scan.proofs.TakenItems.{reading}

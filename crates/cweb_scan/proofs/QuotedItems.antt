@@ -146,19 +146,6 @@ lines_passed u n ps first left s new h count fits front back made =
       sections = ap (λ (v : ScanState). v.sections) made ∙ same.2;
     }
 
-pub emits_after : (us : List (List ℕ)) (a b : List Place) (s t : ScanState) → PassesUnits us a b s t → CanEmit 1 s
-    → CanEmit 1 t
-emits_after us a b s t x h = record {
-  part = ap in_open_part x.context ∙ h.part;
-  room = record {
-    for_tokens = subst (λ (c : Contents). token_count c.parts + 1 < too_many) (sym x.contents) h.room.for_tokens;
-    for_a_part = subst (λ (c : Contents). part_count c.parts + 1 < too_many) (sym x.contents) h.room.for_a_part;
-    for_an_occurrence =
-        subst (λ (c : Contents). length c.occurrences + 1 < too_many) (sym x.contents) h.room.for_an_occurrence;
-    for_a_section = subst (λ (n : ℕ). n + 1 < too_many) (sym x.sections) h.room.for_a_section;
-  };
-}
-
 -- The newlines of its opener, its units and its closer.
 pub quoted_lines : (k : ℕ) (item : Item) (t : List ℕ) (r : Reached) (n : ℕ)
     → r ≡ reached (reach (look_of item) Open (drop k t)) → at_line_ends 1 (take (quoted_as k item t).size t) ≡ n

@@ -21,33 +21,13 @@ ends-seen : (o : Option Token) → is_after_line_end (maybe_last_kind o) ≡ end
 ends-seen None = refl
 ends-seen (Some (Punct b)) = other_last (bytes_eq b (codes "\\"))
 ends-seen (Some Newline) = refl
-ends-seen (Some (Mark p)) = refl
-ends-seen (Some Blank) = refl
-ends-seen (Some (Word b)) = refl
-ends-seen (Some (Number b)) = refl
-ends-seen (Some (Literal b)) = refl
-ends-seen (Some (Verbatim b)) = refl
-ends-seen (Some Join) = refl
-ends-seen (Some Defs) = refl
-ends-seen (Some (Name n)) = refl
-ends-seen (Some (Head n)) = refl
-ends-seen (Some (Tail n)) = refl
+ends-seen (Some _) = refl
 
 pub backslash-seen : (o : Option Token) → is_after_backslash (maybe_last_kind o) ≡ is_punct (codes "\\") o
 backslash-seen None = refl
 backslash-seen (Some (Punct b)) = backslash_last (bytes_eq b (codes "\\"))
 backslash-seen (Some Newline) = refl
-backslash-seen (Some (Mark p)) = refl
-backslash-seen (Some Blank) = refl
-backslash-seen (Some (Word b)) = refl
-backslash-seen (Some (Number b)) = refl
-backslash-seen (Some (Literal b)) = refl
-backslash-seen (Some (Verbatim b)) = refl
-backslash-seen (Some Join) = refl
-backslash-seen (Some Defs) = refl
-backslash-seen (Some (Name n)) = refl
-backslash-seen (Some (Head n)) = refl
-backslash-seen (Some (Tail n)) = refl
+backslash-seen (Some _) = refl
 
 over-seen : (o : Option Token) (t : Token) → kept.continues_line (maybe_last_kind o) t ≡ is_line_continued o t
 over-seen o Newline = backslash-seen o
@@ -104,16 +84,7 @@ bare_includes [] h = refl
 bare_includes (Blank ∷ ts) h = bare_includes ts h
 bare_includes (Word b ∷ ts) h = cc
 bare_includes (Number b ∷ ts) h = refl
-bare_includes (Literal b ∷ ts) h = refl
-bare_includes (Verbatim b ∷ ts) h = refl
-bare_includes (Punct b ∷ ts) h = refl
-bare_includes (Newline ∷ ts) h = refl
-bare_includes (Join ∷ ts) h = refl
-bare_includes (Defs ∷ ts) h = refl
-bare_includes (Name n ∷ ts) h = refl
-bare_includes (Head n ∷ ts) h = refl
-bare_includes (Tail n ∷ ts) h = refl
-bare_includes (Mark p ∷ ts) h = refl
+bare_includes (_ ∷ ts) h = refl
 
 include_when : (a b : Bool) → (a ≡ true → b ≡ false)
     → is_include_stage (if a then Bare else (if b then Include else Further)) ≡ b

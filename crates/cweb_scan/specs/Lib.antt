@@ -1,7 +1,7 @@
 pub mod DirectiveTokens
 pub mod State
-pub mod After
-pub mod Alone
+pub mod Effects
+pub mod Lexemes
 pub mod surface
 pub mod laws
 pub mod inner

@@ -4,4 +4,3 @@ pub mod Law
 pub mod Alone
 pub mod LexemePlaces
 pub mod Counted
-pub mod PartTokens

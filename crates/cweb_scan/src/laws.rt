@@ -10,9 +10,9 @@ ghost use Rattle.cweb_texts.specs.Edges.{first_is};
 ghost use Rattle.cweb_rules.specs.laws.Follows.{JoinsAll, is_quiet};
 ghost use Rattle.cweb_rules.specs.Matches.{Lexeme};
 ghost use Rattle.cweb_rules.specs.declared.context.Context.TheVariants.{CText};
-ghost use Rattle.cweb_scan.specs.After.{Reading};
-ghost use Rattle.cweb_scan.specs.Alone.{InPlainC, ReadsAlone, spelling_of, doubled, is_hash};
-ghost use Rattle.cweb_scan.specs.Alone.{significant, lex, scanned};
+ghost use Rattle.cweb_scan.specs.Effects.{Reading};
+ghost use Rattle.cweb_scan.specs.Lexemes.{InPlainC, ReadsAlone, spelling_of, doubled, is_hash};
+ghost use Rattle.cweb_scan.specs.Lexemes.{significant, lex, scanned};
 ghost use Rattle.cweb_scan.specs.laws.LexemePlaces.{lexemes};
 ghost use Rattle.cweb_scan.specs.laws.Alone.{IsReadAs, continues_token};
 ghost use Rattle.cweb_scan.specs.State.{in_directive};
@@ -20,7 +20,6 @@ ghost use Rattle.cweb_scan.specs.laws.Counted.{OccurrencesAreLexemes, SectionsAr
 ghost use Rattle.cweb_scan.specs.laws.Law.{AreLexemes, PlacesPass};
 ghost use Rattle.cweb_scan.specs.surface.Law.{IsBounded, web_size};
 ghost use Rattle.cweb_scan.specs.laws.LexemePlaces.{LexemesKeepLines};
-ghost use Rattle.cweb_scan.specs.laws.PartTokens.{MarksFollowUses, PartsAreWhole};
 ghost use Rattle.cweb_store.specs.Parts.{Token};
 
 /// The lexemes of a source are the only list that the rules allow.
@@ -43,16 +42,6 @@ pub fn sections_are_section_starts()
 /// The occurrences of the store are the lexemes that are names, in order.
 pub fn occurrences_are_lexemes()
     ensures { (lines : List Line) → OccurrencesAreLexemes lines }
-{}
-
-/// Each part of C text begins with the Head and ends with the Tail of one of the sections. A macro begins with a Word.
-pub fn parts_are_whole()
-    ensures { (lines : List Line) → PartsAreWhole lines }
-{}
-
-/// In C text a Mark follows each use of a name and each Defs. The exception: a Join drops the Mark and follows itself.
-pub fn marks_follow_uses()
-    ensures { (lines : List Line) → MarksFollowUses lines }
 {}
 
 /// Blanks between two lexemes of C text outside directives change nothing: one blank more leaves the result unchanged.

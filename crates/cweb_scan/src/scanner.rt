@@ -91,7 +91,7 @@ fn solid_after(solid: Directive, next: Directive, token: Token<'_>) -> Directive
 impl Scanner {
     ghost use Rattle.cweb_names.specs.surface.Names.{too_many};
     ghost use Rattle.cweb_store.specs.surface.Growing.{token_count};
-    ghost use Rattle.cweb_scan.specs.After as after;
+    ghost use Rattle.cweb_scan.specs.Effects as after;
     ghost use Rattle.cweb_scan.specs.State.{in_directive, is_c, names_include};
     ghost use Rattle.cweb_scan.specs.inner.DirectiveInvariant.{in_open_part};
     ghost use Rattle.cweb_scan.specs.State.{start_state, report_at, move_to};

@@ -1,7 +1,7 @@
 -- The model of bins after a call that changes what is seen of them.
 use Rattle.std.proofs.Common.{◌≡◌, ◌∙◌, ℕ, List, ap, refl, Option, Some, None}
 use Rattle.std.specs.Prelude.{option_map}
-use Rattle.cweb_files.specs.Bins.{refusal, refused}
+use Rattle.cweb_files.specs.Bins.{refused}
 use Rattle.cweb_files.specs.Files.{File}
 use Rattle.cweb_files.specs.Sinks.{SinkContents, SinkModel, changed, failing, without_draft, without_file}
 use Rattle.cweb_files.specs.declared.bins.BinFault.{BinFault}
@@ -15,7 +15,7 @@ use Rattle.cweb_system.specs.Tree.{Tree}
 abbrev pub bins_contents : {H : Type 0} → Tree → List File → Option (Draft H) → Option BinFault → SinkContents
 bins_contents tree files draft why = record {
   bytes = draft_bytes tree draft;
-  beside = record { files = files; draft = option_map draft_name draft; refused = option_map refusal why };
+  beside = record { files = files; draft = option_map draft_name draft; refused = why };
 }
 
 abbrev pub as_model : ℕ → Option SinkContents → SinkModel
@@ -51,11 +51,11 @@ after_discard disk old mid new change {count = count} same gone counts is =
 
 -- A refused draft, by the fault.
 pub refused_device : (fault : BinFault) (bins : SinkModel) → fault ≡ Device
-    → failing (without_file (Some (refusal fault))) bins ≡ refused fault bins
+    → failing (without_file (Some fault)) bins ≡ refused fault bins
 refused_device Device bins is = refl
 refused_device Memory bins is = absurd (cc)
 
 pub refused_memory : (fault : BinFault) (bins : SinkModel) → (fault ≡ Device → ⊥)
-    → changed (without_file (Some (refusal fault))) bins ≡ refused fault bins
+    → changed (without_file (Some fault)) bins ≡ refused fault bins
 refused_memory Memory bins apart = refl
 refused_memory Device bins apart = absurd (apart refl)

@@ -48,7 +48,8 @@ noted was now (Err e) is' is = is'
 -- A call that changes the tree decently.
 pub keeps : {F A : Type 0} {disk : Option (F → Disk)} (read : List FileKey) (change : A → Tree → Tree → Type 0)
     {old new : F} {r : Result A FileFault} → Changes disk change old new r
-    → OnDisk disk (λ see. (x : A) → change x (see old).tree (see new).tree → IsDecent read (see old).tree (see new).tree)
+    → OnDisk disk (λ see. (x : A) → change x (see old).tree (see new).tree
+    → IsDecent read (see old).tree (see new).tree)
     → KeepsDecent disk read old new
 keeps {F = F} {disk = disk} read change {old} {new} {r} c then =
     let see : F → Disk = view disk in

@@ -1,6 +1,5 @@
 -- What bins and shelf over a file system have.
 use Rattle.std.specs.Prelude.{ℕ, List, [], map, Option, Some, None, option_map, string_bytes}
-use Rattle.cweb_files.specs.Bins.{refusal}
 use Rattle.cweb_files.specs.Files.{File}
 use Rattle.cweb_files.specs.Shelves.{ShelfModel}
 use Rattle.cweb_files.specs.Sinks.{SinkContents, SinkModel}
@@ -48,7 +47,7 @@ folder_contents tree folder = record {
   beside = record {
     files = map (file_in tree) folder.files.written.items;
     draft = option_map draft_name folder.draft;
-    refused = option_map refusal folder.refused;
+    refused = folder.refused;
   };
 }
 

@@ -13,7 +13,7 @@ pub record Disk : Type 0 where
   -- Whether a call that changes files has failed.
   pub failed : Bool
 
--- Clauses say nothing of what is seen of an unobservable file system.
+-- A stand-in for the disk of a file system that isn't observable. No clause speaks of it.
 abbrev pub no_disk : {F : Type 0} → F → Disk
 no_disk fs = record {
   tree = record { place = λ path. path; node = λ place. None; target = λ path. None; bytes = λ key. [] };

@@ -87,14 +87,14 @@ impl StringTable {
 
     /// Interns a punctuator as `intern_word` does. Many are one byte, which is found without a call.
     #[inline(always)]
-    pub fn intern_punctuator(&mut self, sign: &[u8]) -> Result<u32, AllocError>
+    pub fn intern_punctuator(&mut self, punctuator: &[u8]) -> Result<u32, AllocError>
         requires few { length self.old.strings + 1 < string_limit }
-        ensures { TakesWord self.old sign.now result self.new }
+        ensures { TakesWord self.old punctuator.now result self.new }
     {
-        if let Some(number) = self.known_byte(sign) {
+        if let Some(number) = self.known_byte(punctuator) {
             return Ok(number);
         }
-        self.intern_word(sign)
+        self.intern_word(punctuator)
     }
 
     // The number of a string of one byte that was interned before.

@@ -20,7 +20,8 @@ pub use Rattle.std.specs.Prelude.{None, Option, Some, IsErr, IsSome, IsTrue, Res
 pub use Rattle.std.specs.Prelude.{◌==◌}
 pub use Rattle.std.specs.Prelude.{All, OnOk, IfSome, if◌then◌else◌, nat_le}
 pub use Rattle.std.specs.Str.{bytes_eq}
-pub use Rattle.cweb_files.specs.Files.{File, no_device, no_memory}
+pub use Rattle.cweb_files.specs.Files.{File}
+pub use Rattle.cweb_files.specs.declared.bins.BinFault.TheVariants.{Device}
 pub use Rattle.cweb_files.specs.Sinks.{FailsWithin, SinkContents, SinkModel, appended, changed}
 pub use Rattle.cweb_files.specs.surface.Writes.{WritesPrefix, Wrote}
 pub use Rattle.cweb_files.specs.Sinks.{committed, failing, with_draft, with_printed, without_draft, without_file, written}
@@ -90,10 +91,10 @@ pub use Rattle.cweb_rules.specs.declared.effect.Effect.TheVariants.{EmitAt}
 pub use Rattle.cweb_rules.specs.declared.end.End.{End}
 pub use Rattle.cweb_rules.specs.declared.end.End.TheVariants.{Closed}
 pub use Rattle.cweb_rules.specs.laws.Follows.{is_quiet, after_word, after_number, joins_last, JoinsAll, begins_as}
-pub use Rattle.cweb_scan.specs.After.{Reading}
-pub use Rattle.cweb_scan.specs.Alone.{InPlainC, HasReadTokens, ReadsAlone, significant, is_insignificant, doubled}
-pub use Rattle.cweb_scan.specs.Alone.{at_doubled, is_hash, spelling_of, token_of, literal_token, is_clean, Scanned}
-pub use Rattle.cweb_scan.specs.Alone.{scanned}
+pub use Rattle.cweb_scan.specs.Effects.{Reading}
+pub use Rattle.cweb_scan.specs.Lexemes.{InPlainC, HasReadTokens, ReadsAlone, significant, is_insignificant, doubled}
+pub use Rattle.cweb_scan.specs.Lexemes.{at_doubled, is_hash, spelling_of, token_of, literal_token, is_clean, Scanned}
+pub use Rattle.cweb_scan.specs.Lexemes.{scanned}
 pub use Rattle.cweb_scan.specs.State.{start_state, open_part_tokens}
 pub use Rattle.cweb_scan.specs.laws.Alone.{IsReadAs, continues_token}
 pub use Rattle.cweb_scan.specs.surface.Scan.{IsMarkBelow, ScanEndsEarly, Scans, StopsAfter}

@@ -1,5 +1,5 @@
 -- Worked examples: what each field of the headlines' records says of a run and its devices.
-use Rattle.cweb_tools.proofs.Common.{FileId, SourceLine, emitted_lines, written_lines, BreaksLimit, LineTooLong, ReadFault, OutNotOpened, WriteFault, LogFault, Breaks, merges, ending, ◌≡◌, ◌+◌, ℕ, List, [], ◌∷◌, ◌++◌, refl, ◌∙◌, ap, arith, codes, Option, Some, None, IsSome, File, no_device, Line, Event, took, fault, World, Found, web_at, change_at, found_course, OptionsModel, WebNames, Devices, SinkContents, SinkModel, appended, blaming, changed, failing, files_in, with_file, with_printed, without_file, Act, says, reads, writes, prints, after_act, RunEnds, completes, stops, RanFreely, DoesActs, acts_status, script, shown_by, Course, change_name, CanCome, MergeCanCome, TangleCourse, unread, not_there, change_not_there, tangling, tangled, planning, Web, Scanned, TanglePromises}
+use Rattle.cweb_tools.proofs.Common.{FileId, SourceLine, emitted_lines, written_lines, BreaksLimit, LineTooLong, ReadFault, OutNotOpened, WriteFault, LogFault, Breaks, merges, ending, ◌≡◌, ◌+◌, ℕ, List, [], ◌∷◌, ◌++◌, refl, ◌∙◌, ap, arith, codes, Option, Some, None, IsSome, File, Device, Line, Event, took, fault, World, Found, web_at, change_at, found_course, OptionsModel, WebNames, Devices, SinkContents, SinkModel, appended, blaming, changed, failing, files_in, with_file, with_printed, without_file, Act, says, reads, writes, prints, after_act, RunEnds, completes, stops, RanFreely, DoesActs, acts_status, script, shown_by, Course, change_name, CanCome, MergeCanCome, TangleCourse, unread, not_there, change_not_there, tangling, tangled, planning, Web, Scanned, TanglePromises}
 use Rattle.cweb_files.specs.Files.{put_file}
 use Rattle.cweb_files.specs.surface.Writes.{always_open}
 use Rattle.std.specs.Prelude.{fold, option_map}
@@ -80,10 +80,10 @@ refuses : (old new : Devices)
     → old.out.contents ≡ open_with [] → new.out ≡ record {
       failed = old.out.failed + 1;
       contents =
-          Some (record { bytes = []; beside = record { files = []; draft = None; refused = Some no_device } });
+          Some (record { bytes = []; beside = record { files = []; draft = None; refused = Some Device } });
     }
 refuses old new broke is_open = ap (λ (d : Devices). d.out) broke.1
-    ∙ (λ i. failing (without_file (Some no_device)) (record { failed = old.out.failed; contents = is_open i }))
+    ∙ (λ i. failing (without_file (Some Device)) (record { failed = old.out.failed; contents = is_open i }))
 
 -- A file could not be committed.
 loses : (old new : Devices) → Breaks (writes (codes "a.c") (codes "x\n")) (ending WriteFault (codes "a.c")) old new

@@ -1,6 +1,6 @@
 -- What a run of `ctangle` leaves in the bins.
 use Rattle.cweb_tools.proofs.Common.{◌≡◌, ◌⊎◌, inl, inr, ℕ, List, [], ◌∷◌, refl, sym, ◌∙◌, ap, Option, Some, None, Devices, SinkContents, SinkModel, Act, merges, writes, prints, after_act, changed, with_file, with_printed, PerformsActs, RunEnds, completes, stops, last_refusal, shown_by}
-use Rattle.cweb_files.specs.Files.{Refused}
+use Rattle.cweb_files.specs.declared.bins.BinFault.{BinFault}
 use Rattle.std.specs.Prelude.{option_map}
 use Rattle.std.specs.Option.{option_and_then}
 use Rattle.cweb_tools.specs.laws.LeftDevices.{EveryRunLeavesBins}
@@ -8,7 +8,7 @@ use Rattle.cweb_tools.proofs.ChangedFilesWereRead.{ends_read, read_if_changed}
 use Rattle.cweb_tools.proofs.Leaving.{ends_draft, ends_files}
 
 -- The last refusal after a change of the contents.
-refusal_after : (change : SinkContents → SinkContents) (refused : Option Refused → Option Refused) → refused None ≡ None
+refusal_after : (change : SinkContents → SinkContents) (refused : Option BinFault → Option BinFault) → refused None ≡ None
     → ((now : SinkContents) → (change now).beside.refused ≡ refused now.beside.refused) → (out : SinkModel)
     → last_refusal (changed change out) ≡ refused (last_refusal out)
 refusal_after change refused none is out = all out.contents
@@ -20,7 +20,7 @@ refusal_after change refused none is out = all out.contents
     all (Some now) = is now
 
 -- A refusal after acts that nothing stopped was there before.
-refused_all : (acts : List Act) (old new : Devices) (why : Refused) → PerformsActs acts None old new
+refused_all : (acts : List Act) (old new : Devices) (why : BinFault) → PerformsActs acts None old new
     → last_refusal new.out ≡ Some why → last_refusal old.out ≡ Some why
 refused_all [] old new why is refused = sym (ap (λ (d : Devices). last_refusal d.out) is) ∙ refused
 refused_all (act ∷ acts) old new why (inr stop) refused = absurd stop
@@ -37,7 +37,7 @@ refused_all (prints text ∷ acts) old new why (inl run) refused =
 refused_all (act ∷ acts) old new why (inl run) refused =
     refused_all acts (after_act act old) new why run.1 refused
 
-refused_so : {acts : List Act} {expected : ℕ} {old new : Devices} {status : ℕ} (why : Refused)
+refused_so : {acts : List Act} {expected : ℕ} {old new : Devices} {status : ℕ} (why : BinFault)
     → RunEnds acts expected old new status → last_refusal new.out ≡ Some why
     → (last_refusal old.out ≡ Some why) ⊎ (status ≡ 1)
 refused_so {acts} {old = old} {new = new} why (completes run answered) refused =

@@ -54,22 +54,3 @@ pub leave_shelf : {C : Type 0} {acts : C → List Act} {CanBe Is : C → Type 0}
     → FollowsActs acts CanBe Is before after status
     → LeavesShelf before.shelf after.shelf before.log after.log status
 leave_shelf run = ends_shelf run.ends
-
--- A shelf stays observable or not.
-mapped : {A : Type 0} (f : A → A) (known : Option A) → is_some (option_map f known) ≡ is_some known
-mapped f None = refl
-mapped f (Some x) = refl
-
-after_stop : (stop : Stop) (about : List ℕ) (shelf : FailedReads)
-    → is_some (shelf_after stop about shelf).blamed ≡ is_some shelf.blamed
-after_stop (ReadFault file) about shelf = mapped _ shelf.blamed
-after_stop stop about shelf = refl
-
-pub shelf_known : {acts : List Act} {expected : ℕ} {old new : Devices} {status : ℕ}
-    → RunEnds acts expected old new status → is_some new.shelf.blamed ≡ is_some old.shelf.blamed
-shelf_known {acts} {old = old} {new = new} (completes run answered) =
-    ap (λ (shelf : FailedReads). is_some shelf.blamed) (shelf_all acts old new run)
-shelf_known {acts} {old = old} (stops (ending stop about) mid run logs answered) =
-    ap (λ (d : Devices). is_some d.shelf.blamed) logs.others
-    ∙ ap (λ (shelf : FailedReads). is_some shelf.blamed) (shelf_until acts stop about old mid run)
-    ∙ after_stop stop about old.shelf

@@ -2,7 +2,7 @@
 use Rattle.cweb_tools.proofs.Common.{◌++◌, ◌≡◌, List, [], ◌∷◌, refl, codes, empty, with_open, Token, Word, Number, Literal, Punct, Blank, Newline, Head, Tail, significant, Quoted, Numeral, Punctuator, Code, CText, EmitAt, Closed, Reading, ReadsAlone, InPlainC, doubled, start_state, open_part_tokens, Setting, print}
 use Rattle.std.specs.Fmt.{digits}
 use Rattle.cweb_store.specs.declared.parts.PartKind.TheVariants as part
-use Rattle.cweb_scan.specs.Alone.{lex}
+use Rattle.cweb_scan.specs.Lexemes.{lex}
 
 abbrev in_c_part : Reading
 in_c_part =

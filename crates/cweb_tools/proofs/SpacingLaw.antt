@@ -1,7 +1,7 @@
 -- The law of blanks, by induction on the tokens.
 use Rattle.cweb_tools.proofs.Common.{◌≡◌, ℕ, Bool, true, false, cond, ◌==◌, not, List, [], ◌∷◌, ◌++◌, Option, Some, None, All, refl, ap, sym, ◌∙◌, append_assoc, codes, if◌then◌else◌, nat_le, decimal, list_all, flat_map-append, All-head, All-tail, list_all-append, Token, Word, Number, Literal, Punct, Blank, Newline, Join, Head, Tail, first_is, is_quiet, Reading, InPlainC, HasReadTokens, IsReadAs, ReadsAlone, significant, is_insignificant, doubled, at_doubled, is_hash, spelling_of, continues_token, Setting, print_after, file_token_bytes, word_bytes, without_joined_layout, sep, are_apart, IsPlain, Spacing, is_ascii, and_parts, and_from, not-true}
 use Rattle.cweb_rules.proofs.Joins.{unlike}
-use Rattle.cweb_scan.specs.Alone.{lex}
+use Rattle.cweb_scan.specs.Lexemes.{lex}
 use Rattle.cweb_scan.proofs.Gaps.{one_more}
 use Rattle.cweb_scan.proofs.PlainStates.{nothing, and_then, no_directive}
 use Rattle.cweb_scan.proofs.PlainTokens.{newline_read, comment_read, comment_of, token_read, quiet_decimal}

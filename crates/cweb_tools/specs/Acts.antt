@@ -2,7 +2,7 @@
 use Rattle.std.specs.Prelude.{◌≡◌, ◌<◌, ◌⊎◌, ℕ, ◌+◌, length, List, [], ◌∷◌, ◌++◌, Option, Some, None, IsSome}
 use Rattle.std.specs.Prelude.{codes, if◌then◌else◌, option_map}
 use Rattle.std.specs.List.{list_any}
-use Rattle.cweb_files.specs.Files.{no_device, no_memory}
+use Rattle.cweb_files.specs.declared.bins.BinFault.TheVariants as bin
 use Rattle.cweb_lines.specs.Events.{Event, IsWithinLimits, emitted_lines, taken_lines, written_lines, BreaksLimit}
 use Rattle.cweb_input.specs.declared.stop.Stop.{Stop}
 use Rattle.cweb_input.specs.declared.stop.Stop.TheVariants.{ReadFault, LineTooLong, TooMuchText, Memory, OutNotOpened}
@@ -110,9 +110,9 @@ Breaks (merges names events) why old new = BreaksReading (merges names) names ev
 Breaks plans (ending Memory about) old new = new ≡ old
 Breaks reserves (ending Memory about) old new = new ≡ old
 Breaks (writes name text) (ending Memory about) old new =
-    new ≡ record old { out = changed (without_file (Some no_memory)) old.out }
+    new ≡ record old { out = changed (without_file (Some bin.Memory)) old.out }
 Breaks (writes name text) (ending OutNotOpened about) old new = (about ≡ name)
-    × (new ≡ record old { out = failing (without_file (Some no_device)) old.out })
+    × (new ≡ record old { out = failing (without_file (Some bin.Device)) old.out })
 Breaks (writes name text) (ending WriteFault about) old new = (about ≡ name)
     × (new ≡ record old { out = failing (without_file None) old.out })
 Breaks (prints text) (ending WriteFault about) old new = FailsOutput text about old new

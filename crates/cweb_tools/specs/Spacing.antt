@@ -2,9 +2,9 @@
 use Rattle.std.specs.Prelude.{◌≡◌, Bool, true, false, nat_le, not, List, codes, Some, All, ℕ}
 use Rattle.std.specs.List.{list_all}
 use Rattle.cweb_store.specs.Parts.{Token, Word, Number, Literal, Punct, Blank, Newline, Head, Tail}
-use Rattle.cweb_scan.specs.After.{Reading}
+use Rattle.cweb_scan.specs.Effects.{Reading}
 use Rattle.cweb_scan.specs.DirectiveTokens.{is_punct}
-use Rattle.cweb_scan.specs.Alone.{lex, ReadsAlone, InPlainC, HasReadTokens, doubled, significant, is_hash}
+use Rattle.cweb_scan.specs.Lexemes.{lex, ReadsAlone, InPlainC, HasReadTokens, doubled, significant, is_hash}
 use Rattle.cweb_print.specs.Printing.{Setting, print}
 
 -- All bytes are below 128.

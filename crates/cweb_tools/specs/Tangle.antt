@@ -7,7 +7,7 @@ use Rattle.cweb_lines.specs.Events.{emitted_lines, reported_faults, openings}
 use Rattle.cweb_input.specs.declared.fault.SourceFault.{SourceFault}
 use Rattle.cweb_store.specs.Calls.{Stored}
 use Rattle.cweb_store.specs.Parts.{Part, is_macro}
-use Rattle.cweb_scan.specs.Alone.{Scanned, scanned}
+use Rattle.cweb_scan.specs.Lexemes.{Scanned, scanned}
 use Rattle.cweb_out.specs.Expansion.{expand, names}
 use Rattle.cweb_out.specs.Outputs as out
 use Rattle.cweb_out.specs.Outputs.{Output, Planned, Refusal, root_list}

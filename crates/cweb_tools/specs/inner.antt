@@ -2,6 +2,7 @@
 pub mod About
 pub mod Acts
 pub mod Begun
+pub mod Counts
 pub mod Course
 pub mod Does
 pub mod Expanders

@@ -2,7 +2,8 @@
 ghost use Rattle.std.specs.Prelude.{◌≡◌, ◌<◌, ◌+◌, ◌^◌, codes, map};
 ghost use Rattle.std.specs.Option.{option_copied};
 ghost use Rattle.cweb_log.specs.Log.{stop_line};
-ghost use Rattle.cweb_log.specs.DeviceModels.{Logs, SinkCountsFit};
+ghost use Rattle.cweb_log.specs.DeviceModels.{Logs};
+ghost use Rattle.cweb_tools.specs.inner.Counts.{SinkCountsFit};
 ghost use Rattle.cweb_files.specs.Sinks.{FailsWithin, written};
 ghost use Rattle.cweb_tools.specs.inner.About.{about_wdep, about_word};
 

@@ -7,7 +7,7 @@ ghost use Rattle.cweb_store.specs.Parts.{all_tokens};
 ghost use Rattle.cweb_scan.specs.surface.Scan.{IsMarkBelow};
 ghost use Rattle.cweb_out.specs.surface.Outputs.{output_name_at};
 ghost use Rattle.cweb_print.specs.Printing.{setting, file};
-ghost use Rattle.cweb_log.specs.DeviceModels.{SinkCountsFit};
+ghost use Rattle.cweb_tools.specs.inner.Counts.{SinkCountsFit};
 ghost use Rattle.cweb_tools.specs.inner.Acts.{ending_of};
 ghost use Rattle.cweb_tools.specs.Acts.{writes};
 ghost use Rattle.cweb_tools.specs.inner.Does.{DoesInOut, DoesInBoth};

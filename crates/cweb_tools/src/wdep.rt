@@ -3,7 +3,8 @@ ghost use Rattle.std.specs.Prelude.{◌≡◌, ◌≢◌, ◌<◌, ◌+◌, ◌^
 ghost use Rattle.std.specs.Option.{option_copied};
 ghost use Rattle.cweb_out.specs.surface.Outputs.{IsPlanOf};
 ghost use Rattle.cweb_log.specs.CommandLine.{options_by};
-ghost use Rattle.cweb_log.specs.DeviceModels.{CountsFit, SinkCountsFit, contents_of, devices};
+ghost use Rattle.cweb_log.specs.DeviceModels.{CountsFit, contents_of, devices};
+ghost use Rattle.cweb_tools.specs.inner.Counts.{SinkCountsFit};
 ghost use Rattle.cweb_tools.specs.Acts.{acts_status};
 ghost use Rattle.cweb_tools.specs.Course.{world_of};
 ghost use Rattle.cweb_tools.specs.Depend.{DependPromises, DependsFreely, depend_plan_acts, depend_web_acts};

@@ -3,8 +3,10 @@ use Rattle.std.specs.Prelude.{◌≡◌, ℕ, Bool, true, false, not, List, [], 
 use Rattle.std.specs.Prelude.{option_map, string_bytes, vec_capacity}
 use Rattle.std.specs.Option.{is_some}
 use Rattle.std.specs.Str.{bytes_eq}
-use Rattle.cweb_files.specs.Files.{File, Refused, no_memory}
+use Rattle.cweb_files.specs.Files.{File}
 use Rattle.cweb_files.specs.Sinks.{Beside, SinkModel}
+use Rattle.cweb_files.specs.declared.bins.BinFault.{BinFault}
+use Rattle.cweb_files.specs.declared.bins.BinFault.TheVariants.{Memory}
 use Rattle.cweb_files.specs.declared.bins.memory.BinFile.{BinFile}
 use Rattle.cweb_files.specs.declared.bins.memory.MemoryBins.{MemoryBins}
 
@@ -29,11 +31,11 @@ abbrev pub draft_bytes : MemoryBins → List ℕ
 draft_bytes bins = bin_file_bytes bins.draft
 
 -- The only reason for a refusal in memory is want of memory.
-abbrev pub memory_refusal : Bool → Option Refused
-memory_refusal true = Some no_memory
+abbrev pub memory_refusal : Bool → Option BinFault
+memory_refusal true = Some Memory
 memory_refusal false = None
 
-abbrev pub last_refusal : MemoryBins → Option Refused
+abbrev pub last_refusal : MemoryBins → Option BinFault
 last_refusal bins = memory_refusal bins.refused
 
 abbrev pub beside_draft : MemoryBins → Beside

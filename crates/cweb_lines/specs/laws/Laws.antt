@@ -1,6 +1,6 @@
 -- What holds of every merge, in the words of an author of webs.
 use Rattle.std.specs.Prelude.{◌≡◌, ◌≢◌, ◌<◌, ◌≤◌, ℕ, ◌+◌, Bool, true, false, List, [], ◌∷◌, ◌++◌, length}
-use Rattle.std.specs.Prelude.{map, Option, None, Some}
+use Rattle.std.specs.Prelude.{None, Some}
 use Rattle.std.specs.List.{AllByRecursion, list_any}
 use Rattle.std.specs.Option.{is_some}
 use Rattle.std.specs.Str.{bytes_eq}
@@ -10,7 +10,6 @@ use Rattle.cweb_input.specs.Include.{World, found_at, include_name, is_include_l
 use Rattle.cweb_lines.specs.Change.{at_place, change_code}
 use Rattle.cweb_lines.specs.laws.MergeOutcome.{followed_by, only_fault, only_lines, only_name, placed}
 use Rattle.cweb_lines.specs.laws.MergeOutcome.{MergeOutcome, outcome_of_lines, merge_outcome}
-use Rattle.cweb_lines.specs.Events.{written_lines}
 use Rattle.cweb_lines.specs.declared.change.code.Code.TheVariants.{EndSide as end_side, NewSide as new_side}
 use Rattle.cweb_lines.specs.declared.change.code.Code.TheVariants.{OldSide as old_side}
 use Rattle.cweb_input.specs.declared.fault.SourceKind.TheVariants.{NoMatch, NoName, NotThere, TooDeep}
@@ -25,20 +24,6 @@ WebsWithoutIncludesAreTheirOwnLines = (world : World) (web : List ℕ)
 -- The line begins with @x, @y or @z.
 abbrev pub is_change_code : List ℕ → Bool
 is_change_code line = is_some (change_code line)
-
--- A printed merge merges to itself: it has the printed lines, none is an include line, and they are printed again.
-pub record ComesAgain (printed : List Line) (again : MergeOutcome) : Type 0 where
-  pub same_lines : lines (written_lines printed) ≡ map (λ line. line.bytes) printed
-  pub without_includes : list_any is_include_line (lines (written_lines printed)) ≡ false
-  pub same_text : written_lines again.lines ≡ written_lines printed
-  pub faultless : again.faults ≡ []
-  pub alone : again.included ≡ []
-
--- A printed merge, merged again without a change file, stays as it is, whatever other files there are.
-abbrev pub PrintedMergesComeAgain : Type 0
-PrintedMergesComeAgain = (world other : World) (web : List ℕ) (change : Option (List ℕ)) →
-    let printed = (merge_outcome world web change).lines in
-    ComesAgain printed (merge_outcome other (written_lines printed) None)
 
 -- Without a change file each line is independent: lines merge as a prefix of them does, followed by the rest. A line
 -- that includes no file is emitted or a fault.

@@ -1,9 +1,8 @@
 // Appends lines that pass through to a caller's buffer.
-ghost use Rattle.std.specs.Prelude.{◌<◌, OnErr};
+ghost use Rattle.std.specs.Prelude.{◌≡◌, ◌<◌, ◌++◌, ◌∷◌, [], OnOk, OnErr};
 ghost use Rattle.cweb_lines.specs.inner.Passing.{AppendsPassedLines};
 
 use crate::merge_state::MergeState;
-use crate::writing::append_line::append_line;
 use std::alloc::AllocError;
 
 /// Appends lines that pass through, while the buffer has fewer than `room` bytes. A refused line is still to come.
@@ -22,5 +21,17 @@ pub fn pass_lines<R: Drop>(
         append_line(buffer, run.printed(stretch))?;
         run.advance(stretch);
     }
+    Ok(())
+}
+
+// Appends a line and its newline, or neither. The room for both is requested at once, so that the buffer grows once.
+#[inline(always)]
+fn append_line(buffer: &mut Vec<u8>, line: &[u8]) -> Result<(), AllocError>
+    ensures ok { OnOk result (buffer.new.items ≡ buffer.old.items ++ line.now ++ 10 ∷ []) }
+    ensures err { OnErr result (buffer.new.items ≡ buffer.old.items) }
+{
+    buffer.reserve(line.len() + 1)?;
+    buffer.extend_from_slice(line)?;
+    buffer.push_reserved(b'\n');
     Ok(())
 }

@@ -17,7 +17,7 @@ look_of Comment t = look_in_comment (begins (codes "*/")) 2 t
 look_of LineComment t = look_in_comment at_line_end 0 t
 look_of (Literal quote) t = look_in_literal quote t
 look_of IncludedName t = look_in_include t
-look_of (RawLiteral sign) t = look_in_raw sign.now t
+look_of (RawLiteral closer) t = look_in_raw closer.now t
 
 abbrev pub MovesOn : Look → Type 0
 MovesOn (Goes n) = 0 < n

@@ -15,7 +15,7 @@ is_special Comment b = b == 64 || b == 42
 is_special LineComment b = b == 64 || b == 10
 is_special (Literal quote) b = (b == 64 || b == 92 || b == quote) || b == 10
 is_special IncludedName b = b == 64 || b == 10 || b == 62
-is_special (RawLiteral sign) b = is_raw_special sign.now b
+is_special (RawLiteral closer) b = is_raw_special closer.now b
 
 abbrev pub is_plain : Item → ℕ → Bool
 is_plain item b = not (is_special item b)

@@ -15,7 +15,7 @@ second_is test (a ∷ b ∷ t) = test b
 
 -- These bytes are an entry of the list.
 abbrev pub is_listed : List ℕ → Bool
-is_listed sign = list_any (bytes_eq sign) listed
+is_listed text = list_any (bytes_eq text) listed
 
 -- The first three bytes are an entry of the list.
 abbrev pub begins_triple : List ℕ → Bool

@@ -22,4 +22,4 @@ reach_of_included_name t = reach look_in_include Cut t
 
 -- The raw literal after its `(`.
 abbrev pub reach_of_raw_literal : List ℕ → List ℕ → Reach
-reach_of_raw_literal sign t = reach (look_in_raw sign) Cut t
+reach_of_raw_literal closer t = reach (look_in_raw closer) Cut t

@@ -21,7 +21,7 @@ after_number b = after_word b || is_one_of (codes ".+-") b
 abbrev pub all_join : (ℕ → ℕ → Bool) → List ℕ → Bool
 all_join joins [] = true
 all_join joins (x ∷ []) = true
-all_join joins (x ∷ y ∷ sign) = joins x y && all_join joins (y ∷ sign)
+all_join joins (x ∷ y ∷ rest) = joins x y && all_join joins (y ∷ rest)
 
 -- The relation holds for the adjacent bytes of listed punctuators, `/*` and `//`, and for `.` before a digit.
 pub record JoinsAll (joins : ℕ → ℕ → Bool) : Type 0 where

@@ -14,7 +14,7 @@ use Rattle.cweb_rules.specs.declared.end.End.TheVariants.{Closed, Cut, Nested, O
 use Rattle.cweb_rules.specs.declared.fault.ScanKind.TheVariants.{DoubleAtInString}
 use Rattle.cweb_rules.specs.declared.rule.Rule.{Rule}
 use Rattle.cweb_rules.specs.declared.rule.Rule.TheVariants as rule
-use Rattle.cweb_scan.specs.After.{item}
+use Rattle.cweb_scan.specs.Effects.{item}
 use Rattle.cweb_scan.specs.State.{is_c, ScanState, report}
 use Rattle.cweb_scan.specs.inner.DirectiveInvariant.{in_open_part}
 
@@ -116,14 +116,6 @@ pub record IsPast (t : List ℕ) : Type 0 where
 -- The state after a unit of a literal. An `@` that isn't doubled is a fault.
 abbrev pub unit_state : ScanState → List ℕ → ScanState
 unit_state s u = if bytes_eq u (codes "@") then report DoubleAtInString s else s
-
--- Literals occur in parts.
-pub literals_in_part : (c : Context) → reads_literals c ≡ true → in_open_part c ≡ true
-literals_in_part Limbo h = h
-literals_in_part TeX h = h
-literals_in_part (Definition begun) h = h
-literals_in_part Macro h = h
-literals_in_part CText h = h
 
 -- The lexeme of a line comment has at least two bytes.
 abbrev pub needs_two : Rule → Bool

@@ -11,7 +11,7 @@ use Rattle.cweb_rules.specs.declared.items.Item.{Item}
 use Rattle.cweb_rules.specs.inner.LineItems.{opens_in}
 use Rattle.cweb_rules.specs.inner.Looks.{look_of}
 use Rattle.cweb_rules.specs.laws.Pays.{at_line_ends}
-use Rattle.cweb_scan.specs.After.{literal_unit}
+use Rattle.cweb_scan.specs.Effects.{literal_unit}
 use Rattle.cweb_scan.specs.State.{ScanState}
 use Rattle.cweb_scan.specs.declared.reader.open.Open.{Open}
 use Rattle.cweb_scan.specs.declared.reader.open.Open.TheVariants.{Between, Comment, Name, Literal, RawLiteral}

@@ -5,9 +5,9 @@ use Rattle.cweb_input.specs.Lines.{Line}
 use Rattle.cweb_names.specs.surface.Names.{too_many}
 use Rattle.cweb_rules.specs.inner.LineItems.{AtLineEnd, IsLine}
 use Rattle.cweb_scan.specs.State.{ScanState, move_to, start_state}
-use Rattle.cweb_scan.specs.After.{Reading}
+use Rattle.cweb_scan.specs.Effects.{Reading}
 use Rattle.cweb_scan.specs.inner.Room.{weight}
-use Rattle.cweb_scan.specs.Alone.{lex, read_lines}
+use Rattle.cweb_scan.specs.Lexemes.{lex, read_lines}
 use Rattle.cweb_scan.specs.inner.ScanParts.{no_place}
 use Rattle.cweb_scan.specs.laws.ReaderModel.{newline_prefixed}
 use Rattle.cweb_scan.specs.laws.ReaderModel.{places}

@@ -6,7 +6,7 @@ use Rattle.cweb_lines.specs.Events.{Event}
 use Rattle.cweb_lines.specs.surface.MergeProgress.{SoFar, EmitsLines}
 use Rattle.cweb_scan.specs.inner.ReaderModel.{ReaderModel, read_after}
 use Rattle.cweb_scan.specs.surface.Law.{web_size}
-use Rattle.cweb_scan.specs.Alone.{Scanned, read_lines}
+use Rattle.cweb_scan.specs.Lexemes.{Scanned, read_lines}
 use Rattle.cweb_scan.specs.inner.ScanParts.{scanned_of}
 use Rattle.cweb_scan.specs.surface.Scan.{AreLinesBelow}
 

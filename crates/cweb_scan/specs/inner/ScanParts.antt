@@ -13,9 +13,9 @@ use Rattle.cweb_rules.specs.declared.effect.Effect.{Effect}
 use Rattle.cweb_rules.specs.declared.effect.Effect.TheVariants.{EmitAt}
 use Rattle.cweb_rules.specs.Matches.{Kind}
 use Rattle.cweb_store.specs.Calls.{finished}
-use Rattle.cweb_scan.specs.Alone.{Scanned}
+use Rattle.cweb_scan.specs.Lexemes.{Scanned}
 use Rattle.cweb_scan.specs.State.{ScanState, emit, move_to, end_part, drop_definition, leave}
-use Rattle.cweb_scan.specs.After.{line_end_token, stays_in_head}
+use Rattle.cweb_scan.specs.Effects.{line_end_token, stays_in_head}
 
 -- The directive has only Blanks.
 abbrev pub is_bare : List Token → Bool

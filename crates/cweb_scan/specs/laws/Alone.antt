@@ -2,8 +2,8 @@
 use Rattle.std.specs.Prelude.{◌≡◌, ℕ, Bool, false, List, ◌++◌}
 use Rattle.cweb_store.specs.Parts.{Token, Word, Number, Punct}
 use Rattle.cweb_rules.specs.laws.Follows.{after_word, after_number, joins_last}
-use Rattle.cweb_scan.specs.After.{Reading}
-use Rattle.cweb_scan.specs.Alone.{lex, HasReadTokens}
+use Rattle.cweb_scan.specs.Effects.{Reading}
+use Rattle.cweb_scan.specs.Lexemes.{lex, HasReadTokens}
 
 -- A byte that may continue a token.
 abbrev pub continues_token : (ℕ → ℕ → Bool) → Token → ℕ → Bool

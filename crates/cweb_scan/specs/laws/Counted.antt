@@ -6,7 +6,7 @@ use Rattle.cweb_names.specs.Names as names
 use Rattle.cweb_rules.specs.Items.{unescaped}
 use Rattle.cweb_rules.specs.Matches.{Kind, Lexeme, Section, Occurrence}
 use Rattle.cweb_scan.specs.State.{name_occurrence}
-use Rattle.cweb_scan.specs.Alone.{scanned}
+use Rattle.cweb_scan.specs.Lexemes.{scanned}
 use Rattle.cweb_scan.specs.laws.LexemePlaces.{lexemes}
 use Rattle.cweb_scan.specs.laws.LexemePlaces.{source_start, joined_lines}
 

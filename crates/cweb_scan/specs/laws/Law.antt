@@ -5,8 +5,8 @@ use Rattle.cweb_store.specs.Parts.{Token, Mark, all_tokens}
 use Rattle.cweb_rules.specs.Matches.{Lexeme}
 use Rattle.cweb_rules.specs.Matches.{RuleMatch, match_in}
 use Rattle.cweb_scan.specs.State.{ScanState, names_include}
-use Rattle.cweb_scan.specs.After.{Reading, after_lexeme}
-use Rattle.cweb_scan.specs.Alone.{Scanned}
+use Rattle.cweb_scan.specs.Effects.{Reading, after_lexeme}
+use Rattle.cweb_scan.specs.Lexemes.{Scanned}
 
 -- The next lexeme, by the context after the lexemes before it.
 abbrev pub next_match : ScanState → List ℕ → RuleMatch

@@ -5,9 +5,9 @@ use Rattle.cweb_files.specs.declared.place.Place.{Place}
 use Rattle.cweb_input.specs.Lines.{Line}
 use Rattle.cweb_rules.specs.Matches.{Lexeme}
 use Rattle.cweb_rules.specs.laws.Pays.{at_line_ends}
-use Rattle.cweb_scan.specs.After.{Reading, after_lexeme}
+use Rattle.cweb_scan.specs.Effects.{Reading, after_lexeme}
 use Rattle.cweb_scan.specs.laws.ReaderModel.{places}
-use Rattle.cweb_scan.specs.Alone.{lexemes_in}
+use Rattle.cweb_scan.specs.Lexemes.{lexemes_in}
 use Rattle.cweb_scan.specs.laws.ReaderModel.{newline_prefixed}
 use Rattle.cweb_scan.specs.State.{start_state}
 

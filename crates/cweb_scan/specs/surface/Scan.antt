@@ -8,7 +8,7 @@ use Rattle.cweb_input.specs.declared.limits.TheConstants.{LINES, BYTES}
 use Rattle.cweb_input.specs.declared.stop.Stop.{Stop}
 use Rattle.cweb_store.specs.Parts.{Token, Mark, all_tokens}
 use Rattle.cweb_scan.specs.surface.Law.{IsBounded, web_size}
-use Rattle.cweb_scan.specs.Alone.{Scanned, scanned}
+use Rattle.cweb_scan.specs.Lexemes.{Scanned, scanned}
 
 abbrev pub IsMarkBelow : ℕ → Token → Type 0
 IsMarkBelow files (Mark place) = place.file.0 < files

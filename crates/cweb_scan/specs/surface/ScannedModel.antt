@@ -1,5 +1,5 @@
 -- The model of a scan's result.
-use Rattle.cweb_scan.specs.Alone.{Scanned}
+use Rattle.cweb_scan.specs.Lexemes.{Scanned}
 use Rattle.cweb_scan.specs.declared.scanner.scanned.Scanned as code
 
 abbrev pub scanned_model : code.Scanned → Scanned

@@ -26,7 +26,7 @@ impl Reader {
     fn take_code(&mut self, rest: Rest<'_>) -> Result<usize, AllocError>
         requires next { AwaitsLexeme (is_head self.old.state.context ≡ false) self.old }
         requires section { bytes.starts_section rest.bytes.now ≡ false }
-        requires sign { bytes.begins (codes "@") rest.bytes.now ≡ true }
+        requires opens { bytes.begins (codes "@") rest.bytes.now ≡ true }
         ensures { IfOk result (λ n. MakesProgress n rest.entry.bytes.now self.old self.new) }
     {
         let effect = effect_of(self.scanner.context(), rest.bytes[1]);

@@ -21,7 +21,7 @@ impl Reader {
     #[inline(never)]
     pub(crate) fn open_comment(&mut self, rest: Rest<'_>) -> Result<usize, AllocError>
         requires next { AwaitsLexeme (reads_c self.old.state.context ≡ true) self.old }
-        requires sign { spec.begins (codes "/*") rest.bytes.now ≡ true }
+        requires opens { spec.begins (codes "/*") rest.bytes.now ≡ true }
         ensures { IfOk result (λ n. MakesProgress n rest.entry.bytes.now self.old self.new) }
     {
         let (_, inner) = rest.bytes.split_at(2);
@@ -39,7 +39,7 @@ impl Reader {
     pub(crate) fn open_name(&mut self, rest: Rest<'_>) -> Result<usize, AllocError>
         requires next { AwaitsLexeme (reads_names self.old.state.context ≡ true) self.old }
         requires head { is_head self.old.state.context ≡ false }
-        requires sign { starts_name rest.bytes.now ≡ true }
+        requires opens { starts_name rest.bytes.now ≡ true }
         ensures { IfOk result (λ n. MakesProgress n rest.entry.bytes.now self.old self.new) }
     {
         let (_, inner) = rest.bytes.split_at(2);
@@ -59,7 +59,7 @@ impl Reader {
         requires next { AwaitsLexeme (reads_literals self.old.state.context ≡ true) self.old }
         requires past { IsPast rest.bytes.now }
         requires plain { starts_raw rest.bytes.now ≡ false }
-        requires sign { starts_literal rest.bytes.now ≡ true }
+        requires opens { starts_literal rest.bytes.now ≡ true }
         ensures { IfOk result (λ n. MakesProgress n rest.entry.bytes.now self.old self.new) }
     {
         let prefix = literal_prefix(rest.bytes);
@@ -77,7 +77,7 @@ impl Reader {
     pub(crate) fn open_raw(&mut self, rest: Rest<'_>) -> Result<usize, AllocError>
         requires next { AwaitsLexeme (reads_literals self.old.state.context ≡ true) self.old }
         requires past { IsPast rest.bytes.now }
-        requires sign { starts_raw rest.bytes.now ≡ true }
+        requires opens { starts_raw rest.bytes.now ≡ true }
         ensures { IfOk result (λ n. MakesProgress n rest.entry.bytes.now self.old self.new) }
     {
         let closer = raw_closer(self.alloc, rest.bytes)?;

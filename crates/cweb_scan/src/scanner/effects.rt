@@ -10,8 +10,8 @@ use std::alloc::AllocError;
 
 impl Scanner {
     ghost use Rattle.std.specs.Prelude.{Some};
-    ghost use Rattle.cweb_scan.specs.After.{apply_effect};
-    ghost use Rattle.cweb_scan.specs.After as after;
+    ghost use Rattle.cweb_scan.specs.Effects.{apply_effect};
+    ghost use Rattle.cweb_scan.specs.Effects as after;
     ghost use Rattle.cweb_rules.specs.declared.effect.Effect.TheVariants as effect;
     ghost use Rattle.cweb_scan.specs.inner.DirectiveInvariant.{in_open_part};
     ghost use Rattle.cweb_scan.specs.inner.Room.{CanEmit, HasPartRoom};

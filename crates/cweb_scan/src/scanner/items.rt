@@ -25,7 +25,7 @@ impl Scanner {
     ghost use Rattle.cweb_rules.specs.Items.{look_in_name, unescaped};
     ghost use Rattle.cweb_rules.specs.Matches.{comment_match, name_match};
     ghost use Rattle.cweb_store.specs.surface.Growing.{token_count};
-    ghost use Rattle.cweb_scan.specs.After.{comment_line_end, occurrence};
+    ghost use Rattle.cweb_scan.specs.Effects.{comment_line_end, occurrence};
     ghost use Rattle.cweb_scan.specs.State.{move_to};
     ghost use Rattle.cweb_scan.specs.inner.MatchSteps.{AppliesOver, passed};
     ghost use Rattle.cweb_scan.specs.inner.PendingItems.{takes_opener, CanTake};

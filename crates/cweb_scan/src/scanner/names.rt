@@ -9,7 +9,7 @@ use cweb_store::{How, NameRef};
 use std::alloc::AllocError;
 
 impl Scanner {
-    ghost use Rattle.cweb_scan.specs.After as spec;
+    ghost use Rattle.cweb_scan.specs.Effects as spec;
     ghost use Rattle.cweb_scan.specs.State.{name_occurrence, add_name};
     ghost use Rattle.cweb_scan.specs.inner.ScanParts.{as_occurrence};
     ghost use Rattle.cweb_scan.specs.inner.PendingItems.{takes_opener};
@@ -66,12 +66,12 @@ impl Scanner {
     }
 
     /// How many bytes of a part opener belong to the name before it: none in C text.
-    pub fn opener_taken(&self, sign: usize) -> usize
-        ensures { result ≡ (if takes_opener self.now then sign else 0) }
+    pub fn opener_taken(&self, size: usize) -> usize
+        ensures { result ≡ (if takes_opener self.now then size else 0) }
     {
         match self.context {
             Context::CText => 0,
-            _ => sign,
+            _ => size,
         }
     }
 }

@@ -10,7 +10,7 @@ use std::alloc::AllocError;
 
 impl Scanner {
     ghost use Rattle.cweb_store.specs.Parts.{is_macro};
-    ghost use Rattle.cweb_scan.specs.After as after;
+    ghost use Rattle.cweb_scan.specs.Effects as after;
     ghost use Rattle.cweb_scan.specs.inner.DirectiveInvariant.{in_open_part};
     ghost use Rattle.cweb_scan.specs.inner.Room.{HasPartRoom, HasItemRoom};
     ghost use Rattle.cweb_scan.specs.State as spec;

@@ -1,9 +1,7 @@
 -- What bins of one file store.
 use Rattle.std.specs.Prelude.{ℕ, List, [], Option, Some, None, option_map, option_to_list, string_bytes}
-use Rattle.cweb_out.specs.Files.{File, Refused, no_device, no_memory}
+use Rattle.cweb_out.specs.Files.{File}
 use Rattle.cweb_out.specs.Sinks.{Beside, SinkModel}
-use Rattle.cweb_out.specs.declared.BinFault.{BinFault}
-use Rattle.cweb_out.specs.declared.BinFault.TheVariants.{Memory, Device}
 use Rattle.cweb_surface_tests.specs.declared.own_bins.NamedFile.{NamedFile}
 use Rattle.cweb_surface_tests.specs.declared.own_bins.OneBin.{OneBin}
 
@@ -14,16 +12,11 @@ abbrev pub draft_bytes : Option NamedFile → List ℕ
 draft_bytes None = []
 draft_bytes (Some file) = file.bytes.items
 
-abbrev pub why : Option BinFault → Option Refused
-why None = None
-why (Some Memory) = Some no_memory
-why (Some Device) = Some no_device
-
 abbrev pub beside_in : OneBin → Beside
 beside_in bin = record {
   files = option_to_list (option_map file_of bin.file);
   draft = option_map (λ (file : NamedFile). string_bytes file.name) bin.draft;
-  refused = why bin.refused;
+  refused = bin.refused;
 }
 
 abbrev pub model_of : OneBin → SinkModel

@@ -3,7 +3,8 @@ ghost use Rattle.std.specs.Prelude.{◌≡◌, None, Some, IsTrue, IsOk, IfOk, O
 ghost use Rattle.cweb_system.specs.FileSet.{keys_in};
 ghost use Rattle.cweb_system.specs.Steps.{OnDisk};
 ghost use Rattle.cweb_system.specs.Tree.{IsFile, at};
-ghost use Rattle.cweb_system.specs.inner.Drafts.{AnswersCommit, DraftIsThere, HasDraft, IsApart, IsCleared, KeepsDecent};
+ghost use Rattle.cweb_system.specs.inner.Drafts.{AnswersCommit, DraftIsThere, HasDraft, IsApart};
+ghost use Rattle.cweb_system.specs.inner.Drafts.{IsCleared, KeepsDecent};
 ghost use Rattle.cweb_system.specs.inner.Drafts.{KeepsMode, LeavesFiles};
 ghost use Rattle.cweb_system.specs.inner.Written.{Leaves, Places};
 
@@ -23,10 +24,10 @@ pub fn put_in_place<F: FileSystem>(
 ) -> Result<bool, FileFault>
     requires { HasDraft F.disk F.key files.now draft.now fs.old }
     ensures decent { KeepsDecent F.disk (keys_in files.now.read) fs.old fs.new }
-    ensures ok { OnDisk F.disk (λ see. OnOk result (Places (string_bytes draft.now.name) draft.now.key
-        files.now.written.items (see fs.old).tree (see fs.new).tree)) }
-    ensures err { OnDisk F.disk (λ see. OnErr result (Leaves files.now.written.items (see fs.old).tree
-        (see fs.new).tree)) }
+    ensures ok { OnDisk F.disk (λ see. OnOk result (Places (string_bytes draft.now.name)
+        draft.now.key files.now.written.items (see fs.old).tree (see fs.new).tree)) }
+    ensures err { OnDisk F.disk (λ see. OnErr result (Leaves files.now.written.items
+        (see fs.old).tree (see fs.new).tree)) }
     ensures stays { OnDisk F.disk (λ see. OnErr result (DraftIsThere F.key files.now.written.items
         draft.now (see fs.new).tree)) }
     ensures mode { OnDisk F.disk (λ see. OnOk result (KeepsMode (string_bytes draft.now.name)

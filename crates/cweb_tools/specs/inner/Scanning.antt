@@ -4,7 +4,7 @@ use Rattle.cweb_input.specs.declared.fault.SourceFault.{SourceFault}
 use Rattle.cweb_log.specs.CommandLine.{OptionsModel}
 use Rattle.cweb_log.specs.DeviceModels.{Devices, FailedReads}
 use Rattle.cweb_files.specs.Sinks.{SinkModel}
-use Rattle.cweb_scan.specs.Alone.{Scanned}
+use Rattle.cweb_scan.specs.Lexemes.{Scanned}
 use Rattle.cweb_tools.specs.Acts.{FollowsActs, RunEnds, acts_status}
 use Rattle.cweb_tools.specs.Script.{TangleCourse}
 use Rattle.cweb_tools.specs.Tangle.{CanCome, web_of}

@@ -1,7 +1,7 @@
 -- What a run leaves in bins and shelf, however it ends.
 use Rattle.std.specs.Prelude.{◌≡◌, ◌≢◌, ◌⊎◌, ℕ, List, ◌++◌, codes, Option, Some, None}
 use Rattle.std.specs.Option.{option_and_then}
-use Rattle.cweb_files.specs.Files.{Refused}
+use Rattle.cweb_files.specs.declared.bins.BinFault.{BinFault}
 use Rattle.cweb_input.specs.Include.{World}
 use Rattle.cweb_log.specs.CommandLine.{OptionsModel, WebNames}
 use Rattle.cweb_log.specs.DeviceModels.{Devices, FailedReads}
@@ -21,7 +21,7 @@ abbrev pub draft_in : SinkModel → Option (List ℕ)
 draft_in out = option_and_then (λ (contents : SinkContents). contents.beside.draft) out.contents
 
 -- Why the last file was refused, if it was.
-abbrev pub last_refusal : SinkModel → Option Refused
+abbrev pub last_refusal : SinkModel → Option BinFault
 last_refusal out = option_and_then (λ (contents : SinkContents). contents.beside.refused) out.contents
 
 -- The bins after a run of `ctangle`, whatever shelf and log are.
@@ -33,7 +33,7 @@ pub record LeavesBins (acts : List Act) (before after : Devices) (status : ℕ) 
   -- The bins change only if all was read.
   pub read : after.out.contents ≢ before.out.contents → HasReadAll acts before after
   -- If a file was refused, the status is 1.
-  pub refused : (why : Refused) → last_refusal after.out ≡ Some why
+  pub refused : (why : BinFault) → last_refusal after.out ≡ Some why
       → (last_refusal before.out ≡ Some why) ⊎ (status ≡ 1)
 
 abbrev pub EveryRunLeavesBins : Type 0

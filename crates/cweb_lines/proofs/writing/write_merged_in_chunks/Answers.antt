@@ -1,4 +1,4 @@
-use Rattle.cweb_lines.proofs.Common.{rules, ◌≡◌, Some, [], Ok, Err, Line, refl, sym, ◌∙◌, arith, Writes, BuffersLines, HasWritten, events_to_come, so_far_of, to_come, so_far, WriteFault}
+use Rattle.cweb_lines.proofs.Common.{rules, ◌≡◌, Some, [], Ok, Err, Line, refl, sym, ◌∙◌, Writes, BuffersLines, HasWritten, events_to_come, so_far_of, to_come, so_far}
 use Rattle.cweb_lines.proofs.ReportsOnlyGrow.{grows_reported, reported_same}
 use Rattle.cweb_lines.proofs.BufferedWrites.{failed_next, failed_same, held, held_on, fails_prefix, fails_among, printed_all, printed_before, printed_none, printed_then, written_on}
 use Rattle.cweb_files.specs.Shelves.{ShelfContents}
@@ -15,7 +15,6 @@ lines-init g c = record {
   printed = printed_none _;
   running = sym c.stopped.ensures.stop ∙ c.in_default.is;
   before = sym c.stopped.ensures.stop ∙ c.in_default.is;
-  empty = c.new-buffer.ensures.items;
   written = λ seen it. nothing_yet _ _ _;
 }
 
@@ -38,9 +37,8 @@ more g c seen it =
     let next = rw c.in-Some-next.is at (c.in-Ok.ensures.next seen (still_seen c.lines.invariant.quiet it)) in
     let line : Line = record { bytes = c.next_line.new.line.items; place = c.in-Some-next.field-0 } in
     let passes = c.pass_lines-passed.ensures.passes in
-    held_on _ _ _ _ _ _ _ (held _ _ _ _ _ _ (c.lines.invariant.written seen it) line _ _ next _ _
-    c.lines.invariant.empty
-    (rw c.deref.ensures.value at c.in_default-append_line.ensures.ok)) passes.lines _ _
+    held_on _ _ _ _ _ _ _ (held _ _ _ _ _ _ (c.lines.invariant.written seen it) line _ _ next _
+    c.in_default-push.ensures.items) passes.lines _ _
     (passes.yields seen.texts seen.left)
     _ passes.buffered passes.within
 
@@ -110,10 +108,10 @@ returns-in_default-next g c =
       again = none_before _ c.lines.invariant.before;
     }
 
-pub returns-in-Err-append_line : goal.returns-in-Err-append_line
-returns-in-Err-append_line g c =
+pub returns-in-Err-push : goal.returns-in-Err-push
+returns-in-Err-push g c =
     let is_memory = c.halt.ensures.stop c.in-Ok.ensures.leaves.running in
-    let reads = reads_then (quiet g (goal.at.returns-in-Err-append_line g c).In-Ok)
+    let reads = reads_then (quiet g (goal.at.returns-in-Err-push g c).In-Ok)
     (reads_halted c.halt.ensures.readers c.halt.ensures.so_far is_memory) in
     record {
       printed = printed_all c.lines.invariant.printed;
@@ -143,7 +141,7 @@ returns-in-Err-write_all g c =
     let at = goal.at.returns-in-Err-write_all g c in
     let passes = c.pass_lines-passed.ensures.passes in
     let q = reads_then (quiet g at.In-Ok) (reads_passed passes) in
-    let err = rw c.deref-in-lines.ensures.value at c.in-Err-write_all.ensures.wrote in
+    let err = rw c.deref.ensures.value at c.in-Err-write_all.ensures.wrote in
     record {
       printed = printed_before c.lines.invariant.printed err;
       grows = grows_reported c.pass_lines-passed.new.self.run q.still;
@@ -172,7 +170,7 @@ wrote : (g : given.Over) (c : In_default-write_all g) (seen : ShelfContents g.ro
     (Writes (g.W.Sink.model c.args.out.now) (g.W.Sink.model c.write_all.new.out))
 wrote g c seen it = written_on _ _ _ _ _ _ _ _
     (more g (goal.at.In_default-write_all g c).After-pass_lines-passed seen it) (g.W.Sink.model c.write_all.new.out)
-    (rw c.deref-in-lines.ensures.value at c.in_default-write_all.ensures.wrote)
+    (rw c.deref.ensures.value at c.in_default-write_all.ensures.wrote)
 
 pub returns-in-Err-passed : goal.returns-in-Err-passed
 returns-in-Err-passed g c =
@@ -211,6 +209,5 @@ lines-preserved g c =
       printed = printed_then _ c.lines.invariant.printed c.in_default-write_all.ensures.wrote;
       running = passes.stopped ∙ c.in-Ok.ensures.leaves.running;
       before = c.lines.invariant.before;
-      empty = c.clear.ensures.items;
       written = λ seen it. wrote g at.In_default-write_all seen it;
     }

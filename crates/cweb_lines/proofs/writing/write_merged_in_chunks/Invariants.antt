@@ -1,4 +1,4 @@
-use Rattle.cweb_lines.proofs.Common.{◌≡◌, ◌-◌, None, [], Writes, to_come, so_far, stop_in, HasWritten}
+use Rattle.cweb_lines.proofs.Common.{◌≡◌, ◌-◌, None, Writes, to_come, so_far, stop_in, HasWritten}
 use Rattle.cweb_lines.proofs.BufferedWrites.{Printed}
 use Rattle.cweb_files.specs.Shelves.{Observed}
 use Rattle.cweb_lines.proofs.NoReadFails.{Quiet}
@@ -10,7 +10,6 @@ invariant-lines g l = record {
   printed : Printed (g.W.Sink.model l.fn.out) (g.W.Sink.model l.out);
   running : stop_in l.merger ≡ None;
   before : stop_in l.fn.merger ≡ None;
-  empty : l.buffer.items ≡ [];
   written : Observed (g.S.Shelf.model l.fn.shelf) (λ seen. HasWritten (so_far l.fn.merger) (so_far l.merger)
       (to_come seen l.fn.merger) (to_come seen l.merger)
       (Writes (g.W.Sink.model l.fn.out) (g.W.Sink.model l.out)));

@@ -7,4 +7,4 @@ starts_with-begins (x ∷ s) [] = refl
 starts_with-begins (x ∷ s) (b ∷ t) = ap (λ r. (x == b) && r) (starts_with-begins s t)
 
 pub returns-clause-value : goal.returns-clause-value
-returns-clause-value c = c.starts_with.ensures.value ∙ starts_with-begins c.args.sign.now c.args.text.now
+returns-clause-value c = c.starts_with.ensures.value ∙ starts_with-begins c.args.prefix.now c.args.text.now

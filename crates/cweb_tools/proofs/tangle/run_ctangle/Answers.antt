@@ -6,7 +6,7 @@ use Rattle.cweb_tools.proofs.RunEnds.{named_ends}
 use Rattle.cweb_tools.proofs.tangle.run_ctangle.Goals as goal
 
 pub scan_web-requires : goal.scan_web-requires
-scan_web-requires g c = omega (arith, log_counted c.in-Ok.ensures.banner, c.requires.counts.sinks.log)
+scan_web-requires g c = omega (arith, log_counted c.in-Ok.ensures.banner, c.requires.counts.log)
 
 pub returns-in-Err-clause-promises : goal.returns-in-Err-clause-promises
 returns-in-Err-clause-promises g c = promised _ _
@@ -18,13 +18,13 @@ returns-in-Err-clause-freely g c = tangled_freely (world_of (contents_of (g.S.Sh
 
 pub tangle_web-requires-clause-counts : goal.tangle_web-requires-clause-counts
 tangle_web-requires-clause-counts g c = record {
-  out = c.requires.counts.sinks.out;
+  out = c.requires.counts.out;
   log =
       omega (
         arith,
         log_counted c.in-Ok.ensures.banner,
         ap (λ log. (g.L.Sink.model log).failed) c.in-Ok-scan_web.ensures.silent,
-        c.requires.counts.sinks.log,
+        c.requires.counts.log,
       );
 }
 

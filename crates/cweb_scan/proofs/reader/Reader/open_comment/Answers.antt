@@ -6,8 +6,8 @@ use Rattle.cweb_scan.proofs.reader.Reader.open_comment.Goals as goal
 
 pub hold-requires-clause-source : goal.hold-requires-clause-source
 hold-requires-clause-source c = record {
-  item = (c.requires.next.context, c.requires.sign);
-  unclosed = (is_comment c.args.self.now.state c.args.rest.bytes.now c.requires.next.context c.requires.sign).opens_is
+  item = (c.requires.next.context, c.requires.opens);
+  unclosed = (is_comment c.args.self.now.state c.args.rest.bytes.now c.requires.next.context c.requires.opens).opens_is
       ∙ comment_goes_on (drop 2 c.args.rest.bytes.now)
       ∙ sym (ap (λ (r : Reached). is_unclosed r.how) (rw c.split_at.ensures.back at c.reach-reached.ensures.value))
       ∙ sym c.is_unclosed.ensures ∙ c.if-is_unclosed.true;
@@ -22,7 +22,7 @@ pub returns : goal.returns
 returns c =
     let u = c.args.rest.bytes.now in
     let h = c.args.self.now in
-    let is = is_comment h.state u c.requires.next.context c.requires.sign in
+    let is = is_comment h.state u c.requires.next.context c.requires.opens in
     let ends = comment_goes_on (drop 2 u)
     ∙ sym (ap (λ (r : Reached). is_unclosed r.how) (rw c.split_at.ensures.back at c.reach-reached.ensures.value))
     ∙ sym c.is_unclosed.ensures ∙ c.if-is_unclosed.false in

@@ -11,7 +11,7 @@ split_at-requires-2 c = omega (
   arith,
   c.literal_prefix-prefix.ensures.value,
   is_quoted-size (literal_prefix
-      c.args.rest.bytes.now) c.args.rest.bytes.now c.requires.sign,
+      c.args.rest.bytes.now) c.args.rest.bytes.now c.requires.opens,
 )
 
 pub hold-requires-clause-source : goal.hold-requires-clause-source
@@ -22,9 +22,9 @@ hold-requires-clause-source c =
     c.split_at.ensures.back (c.byte.ensures ∙ c.of-quote.ensures) in
     let inner = c.split_at-2.ensures.back ∙ ap (λ n. drop (n + 1) u) p in
     record {
-      item = (c.requires.next.context, c.requires.past, c.requires.plain, c.requires.sign);
+      item = (c.requires.next.context, c.requires.past, c.requires.plain, c.requires.opens);
       unclosed = (is_literal c.args.self.now.state u c.requires.next.context c.requires.past c.requires.plain
-          c.requires.sign).opens_is ∙ sym (λ i. goes_on (look_in_literal (quote i)) (inner i))
+          c.requires.opens).opens_is ∙ sym (λ i. goes_on (look_in_literal (quote i)) (inner i))
           ∙ sym c.continues.ensures ∙ c.if-continues.true;
       newlines = none-ends u c.args.rest.line;
     }
@@ -38,7 +38,7 @@ returns c =
     let u = c.args.rest.bytes.now in
     let h = c.args.self.now in
     let p = c.literal_prefix-prefix.ensures.value in
-    let is = is_literal h.state u c.requires.next.context c.requires.past c.requires.plain c.requires.sign in
+    let is = is_literal h.state u c.requires.next.context c.requires.past c.requires.plain c.requires.opens in
     let quote = quote_as u u u c.split_at.result.1.now c.literal_prefix-prefix.result c.byte.result refl refl p
     c.split_at.ensures.back (c.byte.ensures ∙ c.of-quote.ensures) in
     let inner = c.split_at-2.ensures.back ∙ ap (λ n. drop (n + 1) u) p in

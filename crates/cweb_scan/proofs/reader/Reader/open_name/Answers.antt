@@ -6,9 +6,9 @@ use Rattle.cweb_scan.proofs.reader.Reader.open_name.Goals as goal
 
 pub hold-requires-clause-source : goal.hold-requires-clause-source
 hold-requires-clause-source c = record {
-  item = (c.requires.next.context, c.requires.head, c.requires.sign);
+  item = (c.requires.next.context, c.requires.head, c.requires.opens);
   unclosed = (is_name c.args.self.now.state c.args.rest.bytes.now c.requires.next.context c.requires.head
-      c.requires.sign).opens_is ∙ name_goes_on (drop 2 c.args.rest.bytes.now)
+      c.requires.opens).opens_is ∙ name_goes_on (drop 2 c.args.rest.bytes.now)
       ∙ sym (ap (λ (r : Reached). is_unclosed r.how)
       (rw c.split_at.ensures.back at c.reach_after-reached.ensures.value))
       ∙ sym c.is_unclosed.ensures ∙ c.if-is_unclosed.true;
@@ -23,7 +23,7 @@ pub returns : goal.returns
 returns c =
     let u = c.args.rest.bytes.now in
     let h = c.args.self.now in
-    let is = is_name h.state u c.requires.next.context c.requires.head c.requires.sign in
+    let is = is_name h.state u c.requires.next.context c.requires.head c.requires.opens in
     let ends = name_goes_on (drop 2 u) ∙ sym (ap (λ (r : Reached). is_unclosed r.how)
     (rw c.split_at.ensures.back at c.reach_after-reached.ensures.value)) ∙ sym c.is_unclosed.ensures
     ∙ c.if-is_unclosed.false in

@@ -11,8 +11,8 @@ hold-requires-clause-source c =
     let closer = c.deref.ensures.value ∙ c.in_ok-closer.ensures in
     let inner = c.split_at.ensures.back ∙ ap (λ n. drop n u) c.raw_opener_len.ensures.value in
     record {
-      item = (c.requires.next.context, c.requires.past, c.requires.sign);
-      unclosed = (is_raw c.args.self.now.state u c.requires.next.context c.requires.past c.requires.sign).opens_is
+      item = (c.requires.next.context, c.requires.past, c.requires.opens);
+      unclosed = (is_raw c.args.self.now.state u c.requires.next.context c.requires.past c.requires.opens).opens_is
           ∙ raw_goes_on u (drop (raw_opener_len u) u)
           ∙ sym (c.is_unclosed.ensures ∙ ap (λ (r : Reached). is_unclosed r.how) c.reach.ensures.value
           ∙ (λ i. is_unclosed (reach (look_in_raw (closer i)) Open (inner i)).how)) ∙ c.if-is_unclosed.true;
@@ -27,7 +27,7 @@ pub returns : goal.returns
 returns c =
     let u = c.args.rest.bytes.now in
     let h = c.args.self.now in
-    let is = is_raw h.state u c.requires.next.context c.requires.past c.requires.sign in
+    let is = is_raw h.state u c.requires.next.context c.requires.past c.requires.opens in
     let closer = c.deref.ensures.value ∙ c.in_ok-closer.ensures in
     let inner = c.split_at.ensures.back ∙ ap (λ n. drop n u) c.raw_opener_len.ensures.value in
     let ends = sym (c.is_unclosed.ensures ∙ ap (λ (r : Reached). is_unclosed r.how) c.reach.ensures.value

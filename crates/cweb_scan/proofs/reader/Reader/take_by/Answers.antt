@@ -6,18 +6,18 @@ use Rattle.cweb_scan.proofs.RuleSteps.{ends_closes, is_ended, left_ends, part_he
 use Rattle.cweb_scan.proofs.FirstMatchTaken.{seen}
 use Rattle.cweb_scan.proofs.reader.Reader.take_by.Goals as goal
 
-pub open_comment-requires-clause-sign : goal.open_comment-requires-clause-sign
-open_comment-requires-clause-sign c =
+pub open_comment-requires-clause-opens : goal.open_comment-requires-clause-opens
+open_comment-requires-clause-opens c =
     let s = c.args.self.now.state in
     seen (is_c s.context && names_include s) c.args.rest.bytes.now rule.Comment (sym c.requires.first ∙ c.in-Comment.is)
 
-pub take_code-requires-clause-sign : goal.take_code-requires-clause-sign
-take_code-requires-clause-sign c =
+pub take_code-requires-clause-opens : goal.take_code-requires-clause-opens
+take_code-requires-clause-opens c =
     let s = c.args.self.now.state in
     (seen (is_c s.context && names_include s) c.args.rest.bytes.now rule.Code (sym c.requires.first ∙ c.in-Code.is)).1
 
-pub open_raw-requires-clause-sign : goal.open_raw-requires-clause-sign
-open_raw-requires-clause-sign c =
+pub open_raw-requires-clause-opens : goal.open_raw-requires-clause-opens
+open_raw-requires-clause-opens c =
     let s = c.args.self.now.state in
     (seen (is_c s.context && names_include s) c.args.rest.bytes.now rule.RawLiteral
     (sym c.requires.first ∙ c.in-RawLiteral.is)).1
@@ -28,8 +28,8 @@ open_literal-requires-clause-plain c =
     (seen (is_c s.context && names_include s) c.args.rest.bytes.now rule.Literal (sym c.requires.first ∙
     c.in-Literal.is)).1
 
-pub open_literal-requires-clause-sign : goal.open_literal-requires-clause-sign
-open_literal-requires-clause-sign c =
+pub open_literal-requires-clause-opens : goal.open_literal-requires-clause-opens
+open_literal-requires-clause-opens c =
     let s = c.args.self.now.state in
     (seen (is_c s.context && names_include s) c.args.rest.bytes.now rule.Literal (sym c.requires.first ∙
     c.in-Literal.is)).2

@@ -14,7 +14,7 @@ returns c =
     let plain : is_name_effect e ≡ false = ap is_name_effect (sym same) ∙ sym c.is_name_effect.ensures
     ∙ c.if-is_name_effect.false in
     let f =
-    plain_prefix h.state.context (names_include h.state) u c.requires.next.context c.requires.section c.requires.sign
+    plain_prefix h.state.context (names_include h.state) u c.requires.next.context c.requires.section c.requires.opens
     plain in
     closed_at c.in_ok-size.size u h _ _ (effect_match e true u)
     c.self.view_is c.requires.next.between c.requires.next.context c.args.rest.line c.args.rest.some f.0

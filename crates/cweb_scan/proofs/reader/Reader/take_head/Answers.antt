@@ -6,8 +6,8 @@ use Rattle.cweb_scan.proofs.RuleSteps.{is_ended, rule_in_line, two_fit}
 use Rattle.cweb_scan.proofs.FirstMatchTaken.{seen}
 use Rattle.cweb_scan.proofs.reader.Reader.take_head.Goals as goal
 
-pub open_comment-requires-clause-sign : goal.open_comment-requires-clause-sign
-open_comment-requires-clause-sign c =
+pub open_comment-requires-clause-opens : goal.open_comment-requires-clause-opens
+open_comment-requires-clause-opens c =
     seen false c.args.rest.bytes.now rule.Comment (sym c.c_rule-rule.ensures ∙ c.in-Comment.is)
 
 pub take_line_comment-requires-clause-two : goal.take_line_comment-requires-clause-two

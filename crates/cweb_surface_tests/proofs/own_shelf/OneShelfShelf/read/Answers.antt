@@ -7,5 +7,6 @@ pub returns-clause-bytes : goal.returns-clause-bytes
 returns-clause-bytes c = λ seen it.
     let fits : c.args.reader.now.at + c.min-n.result ≤ length c.as_slice-text.result.now =
     omega (arith, c.min.ensures, c.min-n.ensures, c.if-text-reader.false) in
-    rw (sym (same_Some _ seen it)) (rw (← c.as_slice-text.ensures.value) (reads c.as_slice-text.result.now c.copy_from_slice.new.self
+    rw (sym (same_Some _ seen it)) (rw (← c.as_slice-text.ensures.value)
+    (reads c.as_slice-text.result.now c.copy_from_slice.new.self
     c.args.piece.now c.args.reader.now.at c.min-n.result c.copy_from_slice.ensures.after fits))

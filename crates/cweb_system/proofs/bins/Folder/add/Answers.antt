@@ -1,6 +1,5 @@
 use Rattle.std.proofs.Common.{◌≡◌, ◌++◌, refl, rules, sym, ◌∙◌, subst, Option}
 use Rattle.std.specs.Prelude.{option_map, take}
-use Rattle.cweb_files.specs.Bins.{refusal}
 use Rattle.cweb_files.specs.Sinks.{with_printed}
 use Rattle.cweb_system.specs.declared.drafts.path.Draft.{Draft}
 use Rattle.cweb_system.specs.Bins.{draft_bytes, draft_name}
@@ -31,6 +30,6 @@ returns-in-Ok-clause-ok g c =
       beside = record {
         files = left i;
         draft = option_map draft_name (sym was i);
-        refused = option_map refusal c.args.self.now.refused;
+        refused = c.args.self.now.refused;
       };
     })

@@ -1,5 +1,4 @@
 use Rattle.std.proofs.Common.{◌≡◌, ◌∙◌, ◌+◌, ap, refl, rules, Some, None}
-use Rattle.cweb_files.specs.Bins.{refusal}
 use Rattle.cweb_files.specs.Sinks.{SinkModel, with_draft, without_file}
 use Rattle.cweb_files.specs.declared.bins.BinFault.TheVariants.{Device}
 use Rattle.cweb_system.specs.Bins.{folder_model}
@@ -23,7 +22,7 @@ pub returns-then-eq-clause-err : goal.returns-then-eq-clause-err
 returns-then-eq-clause-err g c =
     let fault = c.bin_fault-fault.result in
     let is : fault ≡ Device = search rules in
-    after_discard g.F.FileSystem.disk _ _ _ (without_file (Some (refusal fault))) (λ now. refl) c.abandon.ensures.gone
+    after_discard g.F.FileSystem.disk _ _ _ (without_file (Some fault)) (λ now. refl) c.abandon.ensures.gone
     (ap (λ (m : SinkModel). m.failed + 1) c.abandon.ensures.gone) (λ some.
     let see = view g.F.FileSystem.disk in
     let files = files_then c.begin.ensures.written (c.abandon.new.self.sound.files some)
@@ -35,7 +34,7 @@ pub returns-else-eq-clause-err : goal.returns-else-eq-clause-err
 returns-else-eq-clause-err g c =
     let fault = c.bin_fault-fault.result in
     let apart : fault ≡ Device → ⊥ = search rules in
-    after_discard g.F.FileSystem.disk _ _ _ (without_file (Some (refusal fault))) (λ now. refl) c.abandon.ensures.gone
+    after_discard g.F.FileSystem.disk _ _ _ (without_file (Some fault)) (λ now. refl) c.abandon.ensures.gone
     (ap (λ (m : SinkModel). m.failed) c.abandon.ensures.gone) (λ some.
     let see = view g.F.FileSystem.disk in
     let files = files_then c.begin.ensures.written (c.abandon.new.self.sound.files some)

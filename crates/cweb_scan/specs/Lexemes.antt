@@ -15,7 +15,7 @@ use Rattle.cweb_scan.specs.DirectiveTokens.{is_punct}
 use Rattle.cweb_input.specs.Lines.{Line}
 use Rattle.cweb_store.specs.Calls.{Stored, finished}
 use Rattle.cweb_rules.specs.declared.fault.ScanFault.{ScanFault}
-use Rattle.cweb_scan.specs.After.{Reading, after_lexeme}
+use Rattle.cweb_scan.specs.Effects.{Reading, after_lexeme}
 
 -- A byte, with `@` doubled.
 abbrev pub at_doubled : ℕ → List ℕ
