@@ -16,4 +16,5 @@ chunks-preserved g c = buffers_next bytes (chunks_of c.args.text) c.chunks.index
 
 pub returns : goal.returns
 returns g c = rw (sym (joined_is c.args.text)) (writes_all _ _ (buffers_all bytes (chunks_of c.args.text) c.chunks.index
-    (omega (arith, c.chunks-test.false, c.chunks-index-end.ensures)) c.chunks.invariant) (rw c.as_slice.ensures.value at c.write_all.ensures.wrote))
+    (omega (arith, c.chunks-test.false, c.chunks-index-end.ensures)) c.chunks.invariant)
+    (rw c.as_slice.ensures.value at c.write_all.ensures.wrote))
