@@ -9,7 +9,8 @@ use Rattle.cweb_tools.proofs.Leaving.{ends_draft, ends_files}
 
 -- The last refusal after a change of the contents.
 refusal_after : (change : SinkContents → SinkContents) (refused : Option BinFault → Option BinFault)
-    → refused None ≡ None → ((now : SinkContents) → (change now).beside.refused ≡ refused now.beside.refused) → (out : SinkModel)
+    → refused None ≡ None
+    → ((now : SinkContents) → (change now).beside.refused ≡ refused now.beside.refused) → (out : SinkModel)
     → last_refusal (changed change out) ≡ refused (last_refusal out)
 refusal_after change refused none is out = all out.contents
   where
