@@ -4,7 +4,7 @@ use Rattle.std.proofs.lemmas.List.{map-append}
 use Rattle.std.specs.Prelude.{filter}
 use Rattle.cweb_files.specs.Files.{File, without, put_file}
 use Rattle.cweb_files.specs.declared.bins.memory.BinFile.{BinFile}
-use Rattle.cweb_files.specs.surface.MemoryBins.{as_file}
+use Rattle.cweb_files.specs.surface.MemoryDevices.{as_file}
 use Rattle.std.specs.Str.{bytes_eq}
 
 others : (name : List ℕ) (files : List BinFile) → map as_file

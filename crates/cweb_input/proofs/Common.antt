@@ -17,14 +17,12 @@ pub use Rattle.std.specs.Prelude.{slice_range, IsTrue}
 pub use Rattle.std.specs.Simd.Lanes.{mask_l, zip2, top}
 pub use Rattle.memchr.specs.Find.{IsFirstByte, is_byte}
 pub use Rattle.cweb_input.specs.Include.{name_after_spaces}
-pub use Rattle.cweb_input.specs.inner.NameEnds.{until_name_end}
+pub use Rattle.cweb_input.specs.inner.Finding.{until_name_end, SplitsAt, IsNewlineAt}
 pub use Rattle.cweb_input.specs.Lines.{CutLine, onto_first, cut_lines, trimmed}
 pub use Rattle.cweb_input.specs.declared.limits.TheConstants.{LINE_LENGTH}
 pub use Rattle.cweb_input.specs.declared.source.LineFault.TheVariants.{TooLong}
 pub use Rattle.cweb_input.specs.declared.source.LineTermination.TheVariants.{Full}
 pub use Rattle.cweb_input.specs.declared.stop.Stop.{Stop}
-pub use Rattle.cweb_input.specs.inner.Lines.{SplitsAt, IsNewlineAt}
 pub use Rattle.cweb_input.specs.inner.Source.{IsLongerThan, TakesRawLine, TakesFromBuffer, bytes_left}
-pub use Rattle.cweb_input.specs.surface.Counters.{counters_of}
-pub use Rattle.cweb_input.specs.surface.Lines.{HasNoNewline}
-pub use Rattle.cweb_input.specs.surface.Source.{buffered}
+pub use Rattle.cweb_input.specs.surface.OpenSources.{counters_of, buffered}
+pub use Rattle.cweb_input.specs.surface.OpenedFileNames.{HasNoNewline}

@@ -6,3 +6,4 @@ pub mod SourceStacks
 pub mod TrimmedLines
 pub mod NewlineBits
 pub mod Newlines
+pub mod Errors

@@ -4,7 +4,7 @@ use Rattle.cweb_input.proofs.Common.{cond, take}
 use Rattle.std.specs.Prelude.{not, if◌then◌else◌}
 use Rattle.std.specs.List.{before_first, position_or_len}
 use Rattle.cweb_input.specs.Include.{ends_name}
-use Rattle.cweb_input.specs.inner.NameEnds.{until_name_end}
+use Rattle.cweb_input.specs.inner.Finding.{until_name_end}
 
 pub name_ends : (quoted : Bool) (bs : List ℕ) → before_first (ends_name quoted) bs ≡ until_name_end quoted bs
 name_ends quoted [] = refl

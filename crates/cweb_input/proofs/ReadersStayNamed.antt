@@ -1,16 +1,14 @@
 -- Readers stay opened under the names of their files, and what is blamed.
-use Rattle.cweb_input.proofs.Common.{◌≡◌, ◌≤◌, ◌<◌, ℕ, zero, suc, List, [], ◌∷◌, ◌++◌, Option, Some, None, refl, sym, ◌∙◌, ap, subst, arith, length, get_or, replicate, Err, set, Stop}
+use Rattle.cweb_input.proofs.Common.{◌≡◌, ◌≤◌, ◌<◌, ℕ, zero, suc, List, [], ◌∷◌, ◌++◌, Option, Some, None, refl, sym, ◌∙◌, ap, subst, arith, length, get_or, Err, set, Stop}
 use Rattle.std.specs.Prelude.{Result, option_map, ◌+◌}
 use Rattle.std.proofs.lemmas.List.{get_or_default, get_or_append_left}
 use Rattle.std.proofs.lemmas.Option.{same_Some}
 use Rattle.cweb_files.specs.declared.place.FileId.{FileId}
-use Rattle.cweb_input.specs.surface.ReaderNames.{AreReadersNamed, IsReaderNamed}
-use Rattle.cweb_input.specs.inner.ReaderNames.{KeepsReaderName, KeepsReaderNames}
-use Rattle.cweb_input.specs.surface.ReaderNames.{blaming, shelf_after}
+use Rattle.cweb_input.specs.surface.OpenSources.{AreReadersNamed, IsReaderNamed, blaming, shelf_after, number_or_zero}
+use Rattle.cweb_input.specs.inner.LineCalls.{KeepsReaderName, KeepsReaderNames}
 use Rattle.cweb_input.specs.inner.Source.{after_reading}
 use Rattle.cweb_files.specs.Shelves.{Observed, ShelfContents, ShelfModel, failed_read}
 use Rattle.cweb_input.specs.inner.OpenSources.{files_up_to, stop_for, maximum_of}
-use Rattle.cweb_input.specs.surface.OpenSources.{number_or_zero}
 use Rattle.cweb_input.specs.declared.source.LineFault.{LineFault}
 use Rattle.cweb_input.specs.declared.source.LineFault.TheVariants.{Read}
 use Rattle.cweb_input.specs.declared.open_source.OpenSource.{OpenSource}
@@ -92,15 +90,3 @@ pub line_blames : {R : Type 0} (A : Type 0) (fault : LineFault) (stop : Stop) (f
 line_blames A Read stop file reader old new name is read named = read ∙ named
     ∙ sym (ap (λ s. shelf_after name s old) is)
 line_blames A _ stop file reader old new name is read named = read ∙ sym (ap (λ s. shelf_after name s old) is)
-
-nones : {R : Type 0} (opened_as : R → List ℕ) (names : List (List ℕ)) (n place : ℕ) → IsReaderNamed opened_as names
-    (get_or (replicate n None) place None)
-nones opened_as names zero place = tt
-nones opened_as names (suc n) zero = tt
-nones opened_as names (suc n) (suc place) = nones opened_as names n place
-
-pub named_first : {R : Type 0} (opened_as : R → List ℕ) (names : List (List ℕ)) (text : OpenSource R) (n : ℕ)
-    → IsReaderNamed opened_as names (Some text)
-    → (place : ℕ) → IsReaderNamed opened_as names (get_or (Some text ∷ replicate n None) place None)
-named_first opened_as names text n top zero = top
-named_first opened_as names text n top (suc place) = nones opened_as names n place

@@ -4,13 +4,11 @@ use Rattle.std.proofs.Common.{◌⊎◌}
 use Rattle.std.proofs.lemmas.List.{take_more}
 use Rattle.cweb_files.specs.declared.place.FileId.{FileId}
 use Rattle.cweb_input.specs.Lines.{SourceLine, trimmed, before_blanks, is_blank, numbered_lines}
-use Rattle.cweb_input.specs.surface.Lines.{IsOneLine}
+use Rattle.cweb_input.specs.surface.OpenedFileNames.{IsOneLine, HasNoNewline}
 use Rattle.cweb_input.specs.OpenSources.{TakenCountersModel}
-use Rattle.cweb_input.specs.inner.OpenSources.{TakesNextLine, FirstStops, NamesFile, NeedsRead, newline_bytes, stop_for}
-use Rattle.cweb_input.specs.surface.Lines.{HasNoNewline}
-use Rattle.cweb_input.specs.surface.Source.{buffered}
+use Rattle.cweb_input.specs.inner.OpenSources.{TakesNextLine, FirstStops, NeedsRead, newline_bytes, stop_for}
+use Rattle.cweb_input.specs.surface.OpenSources.{buffered, StopsFor, StopsReading}
 use Rattle.cweb_input.specs.declared.open_source.OpenSource.{OpenSource}
-use Rattle.cweb_input.specs.surface.OpenSources.{StopsFor, StopsReading}
 use Rattle.cweb_input.specs.declared.limits.TheConstants.{LINES, BYTES}
 use Rattle.cweb_input.specs.declared.source.LineFault.{LineFault}
 use Rattle.cweb_input.specs.declared.source.LineFault.TheVariants.{Read, Memory as NoMemory}
@@ -106,10 +104,6 @@ line_stops NoMemory stop text file number count is long = subst
 pub line_reads : (fault : LineFault) (stop : Stop) (file : FileId) → stop ≡ stop_for fault file → StopsReading stop
 line_reads Read stop file is = subst StopsReading (sym is) tt
 line_reads _ stop file is = subst StopsReading (sym is) tt
-
-pub line_names : (fault : LineFault) (stop : Stop) (file : FileId) → stop ≡ stop_for fault file → NamesFile file stop
-line_names NoMemory stop file is = subst (NamesFile file) (sym is) tt
-line_names _ stop file is = subst (NamesFile file) (sym is) refl
 
 pub line_needs : {R : Type 0} (fault : LineFault) (stop : Stop) (text : OpenSource R) → stop ≡ stop_for fault text.file
     → (fault ≡ Read → HasNoNewline (buffered text.source)) → NeedsRead (Some text) stop

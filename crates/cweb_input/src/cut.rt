@@ -2,11 +2,11 @@
 ghost use Rattle.std.specs.Prelude.{◌≡◌, ◌≤◌, ◌<◌, ◌+◌, ◌^◌, ◌++◌, [], length, take, IfOk};
 ghost use Rattle.std.specs.Prelude.{OnOk, IsErrOf};
 ghost use Rattle.cweb_files.specs.Shelves.{Observed};
-ghost use Rattle.cweb_input.specs.surface.Lines.{HasNoNewline};
-ghost use Rattle.cweb_input.specs.inner.Lines.{IsNewlineAt, byte_before};
+ghost use Rattle.cweb_input.specs.surface.OpenedFileNames.{HasNoNewline};
+ghost use Rattle.cweb_input.specs.inner.Finding.{IsNewlineAt, byte_before};
 ghost use Rattle.cweb_input.specs.inner.Source.{bytes_left, TakesRawLine, IsLongerThan};
-ghost use Rattle.cweb_input.specs.surface.Source.{buffered};
 ghost use Rattle.cweb_input.specs.inner.Source.{FailsInLine, ReadsSource, TakesFromBuffer};
+ghost use Rattle.cweb_input.specs.surface.OpenSources.{buffered};
 
 use crate::limits::LINE_LENGTH;
 use crate::source::{LineFault, LineTermination, Source};

@@ -1,7 +1,7 @@
 // Include lines, and the names in them.
-ghost use Rattle.std.specs.Prelude.{◌≡◌, ◌≤◌, ◌<◌, ◌+◌, ℕ, List, length, take, drop};
+ghost use Rattle.std.specs.Prelude.{◌≡◌, ◌≤◌, ◌+◌, length};
 ghost use Rattle.cweb_input.specs.Include as spec;
-ghost use Rattle.cweb_input.specs.inner.NameEnds.{until_name_end};
+ghost use Rattle.cweb_input.specs.inner.Finding.{until_name_end};
 
 /// Whether a line begins with `@i` or `@I` (CWEB manual, `@i`). No blank is needed after it.
 pub fn is_include_line(line: &[u8]) -> bool

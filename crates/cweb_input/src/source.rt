@@ -1,6 +1,6 @@
 // A reader with its buffer, and how a line ended.
 ghost use Rattle.std.specs.Prelude.{◌≡◌, ◌≤◌, ◌<◌, length, IfOk};
-ghost use Rattle.cweb_input.specs.inner.Lines.{byte_before};
+ghost use Rattle.cweb_input.specs.inner.Finding.{byte_before};
 ghost use Rattle.cweb_input.specs.declared.source.LineFault.TheVariants.{Memory};
 
 use crate::buffer_pool::new_buffer;
@@ -52,7 +52,7 @@ pub struct Source<R: Drop> {
 }
 
 impl<R: Drop> Source<R> {
-    ghost use Rattle.cweb_input.specs.surface.Source.{buffered};
+    ghost use Rattle.cweb_input.specs.surface.OpenSources.{buffered};
     ghost use Rattle.std.specs.Prelude.{[]};
 
     /// Nothing is read yet. It allocates a buffer.

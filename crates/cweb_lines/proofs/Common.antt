@@ -27,7 +27,9 @@ pub use Rattle.cweb_input.specs.Lines.{Line, SourceLine, CutLine, numbered_lines
 pub use Rattle.cweb_input.specs.Lines.{is_blank, onto_first, cut_lines, RawLine, Thing, passed, raw, raws, seek}
 pub use Rattle.cweb_input.specs.Lines.{reported}
 pub use Rattle.cweb_input.specs.OpenSources.{TakenCountersModel, RefusesLine}
-pub use Rattle.cweb_input.specs.surface.OpenSources.{files_named}
+pub use Rattle.cweb_input.specs.surface.OpenSources.{files_named, counters_of, StopsFor, matches_at, number_or_zero}
+pub use Rattle.cweb_input.specs.surface.OpenSources.{source_depth, things_above, things_over, lines_at, lines_left}
+pub use Rattle.cweb_input.specs.surface.OpenSources.{StopsReading, AreReadersNamed, IsReaderNamed, buffered}
 pub use Rattle.cweb_input.specs.declared.counters.TakenCounters.{TakenCounters}
 pub use Rattle.cweb_input.specs.declared.fault.SourceFault.{SourceFault}
 pub use Rattle.cweb_input.specs.declared.fault.SourceKind.{SourceKind}
@@ -40,32 +42,23 @@ pub use Rattle.cweb_input.specs.declared.open_source.OpenSource.{OpenSource}
 pub use Rattle.cweb_input.specs.declared.open_source.stack.Stack.{Stack}
 pub use Rattle.cweb_input.specs.declared.stop.Stop.{Stop}
 pub use Rattle.cweb_input.specs.declared.stop.Stop.TheVariants.{ReadFault, Memory, LineTooLong, TooMuchText, WriteFault}
-pub use Rattle.cweb_input.specs.inner.Finding.{lines_found, found_as}
-pub use Rattle.cweb_input.specs.inner.Lines.{SplitsAt}
+pub use Rattle.cweb_input.specs.inner.Finding.{lines_found, found_as, SplitsAt}
 pub use Rattle.cweb_input.specs.inner.OpenSources.{CountsLine, files_up_to, raw_thing, TopStops, FirstStops, StaysBelow}
 pub use Rattle.cweb_input.specs.inner.OpenSources.{OpensSource, StopsAbove, TakesAbove, TakesFirst, Counted}
 pub use Rattle.cweb_input.specs.inner.OpenSources.{line_number}
 pub use Rattle.cweb_input.specs.laws.Lines.{lines}
-pub use Rattle.cweb_input.specs.surface.Counters.{counters_of}
-pub use Rattle.cweb_input.specs.surface.Finding.{optional_string_bytes, world_in}
-pub use Rattle.cweb_input.specs.surface.Lines.{IsOneLine, HasNoNewline}
-pub use Rattle.cweb_input.specs.surface.OpenSources.{StopsFor, matches_at, number_or_zero, source_depth, things_above}
-pub use Rattle.cweb_input.specs.surface.OpenSources.{things_over, lines_at, lines_left, StopsReading}
+pub use Rattle.cweb_input.specs.surface.OpenedFileNames.{optional_string_bytes, world_in, IsOneLine, HasNoNewline}
 pub use Rattle.cweb_input.specs.surface.OpenedFileNames.{opened_file_names}
-pub use Rattle.cweb_input.specs.surface.ReaderNames.{AreReadersNamed, IsReaderNamed}
-pub use Rattle.cweb_input.specs.surface.Source.{buffered}
 pub use denote.Enum.Bare.{sameb}
 pub use Rattle.cweb_lines.specs.Change.{WaitingEntry, at_place, OldSide, change_code, old_after, old_at, old_lines}
 pub use Rattle.cweb_lines.specs.Change.{one_more, dropping, Sought, after_x, outside, sought, sought_after}
 pub use Rattle.cweb_lines.specs.Events.{emitted_lines, reported_faults, openings, taken_lines, size_of_lines, AreShort}
-pub use Rattle.cweb_lines.specs.Events.{written_lines}
-pub use Rattle.cweb_lines.specs.surface.Writing.{write_failures_of}
-pub use Rattle.cweb_lines.specs.Events.{Event, took, fault, emitted}
-pub use Rattle.cweb_lines.specs.Merge.{Next, MergeStateModel, at_raw, included, obeyed}
-pub use Rattle.cweb_lines.specs.Events.{opening}
-pub use Rattle.cweb_lines.specs.Merge.{open_include, past, plain, run_steps, taking, NewSide, new_at}
-pub use Rattle.cweb_lines.specs.Merge.{new_things, after_old, at_entry, change_events, closing_faults, fault_if}
-pub use Rattle.cweb_lines.specs.Merge.{new_lines, started, onto}
+pub use Rattle.cweb_lines.specs.Events.{written_lines, Event, took, fault, emitted, opening}
+pub use Rattle.cweb_lines.specs.surface.Writing.{write_failures_of, LosesLine, StopsWriting, WritingStops, LeavesSink}
+pub use Rattle.cweb_lines.specs.surface.Writing.{Writes, KeepsStop, WritesAll, WritesSome, WritesUpTo}
+pub use Rattle.cweb_lines.specs.Merge.{Next, MergeStateModel, at_raw, included, obeyed, open_include, past, plain}
+pub use Rattle.cweb_lines.specs.Merge.{run_steps, taking, NewSide, new_at, new_things, after_old, at_entry}
+pub use Rattle.cweb_lines.specs.Merge.{change_events, closing_faults, fault_if, new_lines, started, onto}
 pub use Rattle.cweb_lines.specs.contracts.change.code.Code.{the_type}
 pub use Rattle.cweb_lines.specs.declared.change.Change.{Change}
 pub use Rattle.cweb_lines.specs.declared.change.Stage.{Stage}
@@ -78,41 +71,32 @@ pub use Rattle.cweb_lines.specs.declared.passing.line_span.LineSpan.{LineSpan}
 pub use Rattle.cweb_lines.specs.declared.passing.stretch.Stretch.{Stretch}
 pub use Rattle.cweb_lines.specs.declared.step.Turn.{Turn}
 pub use Rattle.cweb_lines.specs.declared.step.Turn.TheVariants.{Emitted, On, Ended}
-pub use Rattle.cweb_lines.specs.inner.Ahead.{FitsLimits, FitsLimitsAt, IsAhead, LooksAhead, LooksAheadIn}
-pub use Rattle.cweb_lines.specs.inner.LineSpans.{BorrowsLines, line_span_at}
+pub use Rattle.cweb_lines.specs.inner.Ahead.{FitsLimits, FitsLimitsAt, IsAhead, LooksAhead, LooksAheadIn, BorrowsLines}
+pub use Rattle.cweb_lines.specs.inner.Ahead.{line_span_at}
 pub use Rattle.cweb_lines.specs.inner.MergeProgress.{events_after_line, EmitsAfterLine, turns_left, turn_lines}
-pub use Rattle.cweb_lines.specs.inner.MergeReaderNames.{KeepsReaders}
+pub use Rattle.cweb_lines.specs.inner.MergeProgress.{FailsAmong}
+pub use Rattle.cweb_lines.proofs.Terms.{HasWritten, SeeksTo, BuffersLines}
+pub use Rattle.cweb_lines.specs.inner.StepCalls.{KeepsReaders, OnlyOpens, OnlyTakes, OnlyReports}
 pub use Rattle.cweb_lines.specs.inner.Passing.{ComesNext, EmitsBufferedLines, HasRoomFor, IsStretch, Reaches}
 pub use Rattle.cweb_lines.specs.inner.Passing.{IsStretchAt, IsStretchOf, line_with_newline, lines_next, top_of}
-pub use Rattle.cweb_lines.specs.inner.Passing.{AppendsPassedLines, BuffersLines, AllPassThrough, trimmed_with_newlines}
+pub use Rattle.cweb_lines.specs.inner.Passing.{AppendsPassedLines, AllPassThrough, trimmed_with_newlines}
 pub use Rattle.cweb_lines.specs.inner.Passing.{sources_next, with_newlines, stretch_bytes, PassesThrough, buffer_of}
 pub use Rattle.cweb_lines.specs.inner.Passing.{PassesTop, KeepsLevel, PassesSlot, all_but_last, OnlyLastExceeds}
-pub use Rattle.cweb_lines.specs.inner.Replacing.{Compares, IsReplaced, Replaces, IsChanged, ReportsFaultPrefix}
-pub use Rattle.cweb_lines.specs.inner.Replacing.{StopsOldSide, old_side_of}
-pub use Rattle.cweb_lines.specs.inner.Seeking.{LooksInPart, Searched, SeeksTo, search_after, BegunKnown}
+pub use Rattle.cweb_lines.specs.inner.ChangeProgress.{Compares, IsReplaced, Replaces, IsChanged, ReportsFaultPrefix}
+pub use Rattle.cweb_lines.specs.inner.ChangeProgress.{StopsOldSide, old_side_of, LooksInPart, Searched}
+pub use Rattle.cweb_lines.specs.inner.ChangeProgress.{search_after, BegunKnown}
 pub use Rattle.cweb_lines.specs.inner.Stages.{IsSettled, floor_of, begun_by, begun_stage, files_begun, stage_for}
 pub use Rattle.cweb_lines.specs.inner.Stages.{IsOutside}
-pub use Rattle.cweb_lines.specs.inner.StepCalls.{OnlyOpens}
-pub use Rattle.cweb_lines.specs.inner.Steps.{OnlyTakes, OnlyReports}
-pub use Rattle.cweb_lines.specs.inner.Total.{merge_yields, merge_next, merge-run_steps, merge_end}
-pub use Rattle.cweb_lines.specs.inner.Writing.{HasWritten, FailsAmong}
-pub use Rattle.cweb_lines.specs.laws.Laws.{is_change_code}
-pub use Rattle.cweb_lines.specs.laws.Laws.{IncludeLinesAreReplaced, Includes, LinesComeApart}
-pub use Rattle.cweb_lines.specs.laws.Laws.{IsPlainSplice, Splice, spliced, web_lines}
-pub use Rattle.cweb_lines.specs.laws.Laws.{UnmatchedEntriesAreReported, ChangesSplice}
-pub use Rattle.cweb_lines.specs.laws.Laws.{WebsWithoutIncludesAreTheirOwnLines}
-pub use Rattle.cweb_lines.specs.laws.MergeOutcome.{outcome_of_events}
-pub use Rattle.cweb_lines.specs.laws.MergeOutcome.{followed_by, only_lines, MergeOutcome, outcome_of_lines, placed}
-pub use Rattle.cweb_lines.specs.laws.MergeOutcome.{placed_line, only_fault}
-pub use Rattle.cweb_lines.specs.surface.Halting.{halts}
-pub use Rattle.cweb_lines.specs.surface.MergeProgress.{SoFar, EmitsLines, ReportsPrefix, ReadsNext, IsAtEnd}
-pub use Rattle.cweb_lines.specs.surface.MergeProgress.{Stopped, pending_of, so_far_of, IsPrefix}
-pub use Rattle.cweb_lines.specs.surface.MergeProgress.{KeepsReported, change_lines, events_to_come, things_of}
-pub use Rattle.cweb_lines.specs.surface.MergeProgress.{NothingLeft, StopsAfterLines}
-pub use Rattle.cweb_lines.specs.surface.MergeProgress.{ReadFailsAfterLines}
-pub use Rattle.cweb_lines.specs.surface.MergeReaderNames.{AreReadersKnown}
-pub use Rattle.cweb_lines.specs.surface.MergerCalls.{Grows, to_come, so_far, stop_in}
-pub use Rattle.cweb_lines.specs.surface.Stages.{change_in, pending_in, things_below, things_in}
-pub use Rattle.cweb_lines.specs.surface.Total.{merge}
-pub use Rattle.cweb_lines.specs.surface.Writing.{LosesLine, StopsWriting, WritingStops, LeavesSink}
-pub use Rattle.cweb_lines.specs.surface.Writing.{Writes, KeepsStop, WritesAll, WritesSome, WritesUpTo}
+pub use Rattle.cweb_lines.proofs.EnoughSteps.{merge_yields, merge_next, merge-run_steps, merge_end}
+pub use Rattle.cweb_lines.specs.laws.Laws.{is_change_code, IncludeLinesAreReplaced, Includes, LinesComeApart}
+pub use Rattle.cweb_lines.specs.laws.Laws.{IsPlainSplice, Splice, spliced, web_lines, UnmatchedEntriesAreReported}
+pub use Rattle.cweb_lines.specs.laws.Laws.{ChangesSplice, WebsWithoutIncludesAreTheirOwnLines}
+pub use Rattle.cweb_lines.specs.laws.MergeOutcome.{outcome_of_events, followed_by, only_lines, MergeOutcome}
+pub use Rattle.cweb_lines.specs.laws.MergeOutcome.{outcome_of_lines, placed, placed_line, only_fault}
+pub use Rattle.cweb_lines.specs.surface.Halting.{halts, merge}
+pub use Rattle.cweb_lines.specs.surface.MergeProgress.{SoFar, EmitsLines, ReportsPrefix, ReadsNext, IsAtEnd, Stopped}
+pub use Rattle.cweb_lines.specs.surface.MergeProgress.{pending_of, so_far_of, IsPrefix, KeepsReported, change_lines}
+pub use Rattle.cweb_lines.specs.surface.MergeProgress.{events_to_come, things_of, NothingLeft, StopsAfterLines}
+pub use Rattle.cweb_lines.specs.surface.MergeProgress.{ReadFailsAfterLines, change_in, pending_in, things_below}
+pub use Rattle.cweb_lines.specs.surface.MergeProgress.{things_in}
+pub use Rattle.cweb_lines.specs.surface.MergerCalls.{AreReadersKnown, Grows, to_come, so_far, stop_in}

@@ -2,9 +2,8 @@
 use Rattle.cweb_lines.proofs.Common.{rules, ◌≡◌, ◌∙◌, ◌++◌, ℕ, List, [], Some, refl, sym, ap, so_far_of, opened_file_names, Memory, OnlyReports, SourceFault, MergeState, AppendsPassedLines, AreReadersKnown, Line, LineAt, Stop, Result, Ok, Err, IfErr}
 use Rattle.cweb_files.specs.Shelves.{Observed, ShelfContents, ShelfModel}
 use Rattle.cweb_files.specs.declared.place.FileId.{FileId}
-use Rattle.cweb_input.specs.surface.ReaderNames.{BlamesFile, ReadsShelf, shelf_after}
-use Rattle.cweb_lines.specs.inner.MergeReaderNames.{KeepsReaders}
-use Rattle.cweb_lines.specs.inner.StepCalls.{Obeys, Reads, outcome}
+use Rattle.cweb_input.specs.surface.OpenSources.{BlamesFile, ReadsShelf, shelf_after}
+use Rattle.cweb_lines.specs.inner.StepCalls.{KeepsReaders, Obeys, Reads, outcome}
 use Rattle.cweb_lines.specs.surface.MergeProgress.{KeepsReported}
 use Rattle.cweb_lines.specs.surface.MergerCalls.{KnowsReaders, StaysKnown}
 use Rattle.cweb_lines.specs.declared.merger.Merger.{Merger}

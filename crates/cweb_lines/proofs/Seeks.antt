@@ -1,6 +1,6 @@
 -- The search for an entry, line by line.
 use Rattle.cweb_lines.proofs.Common.{rules, ◌≡◌, ℕ, List, [], ◌∷◌, ◌++◌, Option, Some, None, refl, sym, ◌∙◌, ap, subst, append-nil, map, Place, Sought, sought, SourceLine, Event, took, fault, reported_faults, SoFar, EmitsLines, ReadsNext, ReportsPrefix, StopsAfterLines, Stopped, Searched, SeeksTo, LooksInPart, search_after, IsOutside, FirstStops, CountsLine, SourceFault, Stage, Done, Waiting, StopsFor, Stop, ReadFault, LineTooLong, TooMuchText, Memory}
-use Rattle.cweb_lines.specs.inner.Seeking.{LooksAt}
+use Rattle.cweb_lines.specs.inner.ChangeProgress.{LooksAt}
 use Rattle.cweb_lines.specs.declared.change.seek.Look.TheVariants.{Entry as first_line, On as goes_on}
 use Rattle.cweb_lines.proofs.AddedEvents.{takes_one, reports, reports_some}
 use Rattle.cweb_lines.proofs.EmittedLinesAddUp.{yields_both}
@@ -13,9 +13,8 @@ sought_takes line lines (Some begin) = (_, refl)
 
 reads_sought : (lines : List SourceLine) (begin : Option Place) → ReadsNext (sought lines begin).events
 reads_sought [] None = tt
-reads_sought [] (Some begin) = tt
 reads_sought (line ∷ lines) None = tt
-reads_sought (line ∷ lines) (Some begin) = tt
+reads_sought _ _ = tt
 
 module _ (all : Sought) (lines : List SourceLine) (begin : Option Place) (old mid : SoFar)
     (seeks : SeeksTo all (sought lines begin) old mid) where

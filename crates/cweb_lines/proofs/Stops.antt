@@ -1,6 +1,6 @@
 -- The events before a stop.
 use Rattle.cweb_lines.proofs.Common.{rules, ◌≡◌, ◌++◌, ℕ, zero, suc, List, [], ◌∷◌, Option, Some, None, refl, sym, ◌∙◌, ap, subst, Bool, Place, WaitingEntry, World, SourceLine, NewSide, Thing, seek, raw, raws, reported, passed, Event, took, fault, at_place, NoMatch, sought, new_at, new_lines, things_over, things_above, things_in, lines_at, matches_at, number_or_zero, source_depth, ◌+◌, SoFar, ReadsNext, IsAtEnd, StopsAfterLines, Stopped, TopStops, StopsFor, RefusesLine, change_code, Code, Stage, Seeking, Changing, Stack, OpenSource, merge, merge_end, merge_next, so_far_of, counters_of, OnlyTakes, MergeState, Result, Ok, Err, IfErr, OnErr, ReportsPrefix, Stop, ReadFault, LineTooLong, TooMuchText, Memory}
-use Rattle.cweb_lines.specs.declared.change.code.Code.TheVariants.{OldSide as old_side, NewSide as new_side, EndSide as end_side}
+use Rattle.cweb_lines.specs.declared.change.code.Code.TheVariants.{EndSide as end_side}
 use Rattle.std.specs.Prelude.{slice_index_or}
 use Rattle.cweb_lines.specs.surface.MergerCalls.{StopsThere}
 use Rattle.cweb_lines.proofs.Merges.{yields_nothing, merge_takes, state}
@@ -55,10 +55,8 @@ above_first left low stack rest first = over_first left low _ stack.texts rest f
 
 new_at_first : (code : Option Code) (depth : ℕ) (line : SourceLine) (lines : List SourceLine) (side : NewSide)
     (rest : List Thing) → ReadsFirst ((new_at code depth line lines side).things ++ rest)
-new_at_first None depth line lines side rest = tt
-new_at_first (Some old_side) depth line lines side rest = tt
-new_at_first (Some new_side) depth line lines side rest = tt
 new_at_first (Some end_side) depth line lines side rest = tt
+new_at_first _ depth line lines side rest = tt
 
 pub new_first : (depth : ℕ) (begin : Place) (lines : List SourceLine) (rest : List Thing)
     → ReadsFirst ((new_lines depth begin lines).things ++ rest)

@@ -5,9 +5,7 @@ pub mod surface
 pub mod laws
 pub mod inner
 pub use Rattle.cweb_files.specs.Shelves
-pub use Rattle.cweb_input.specs.surface.Counters
 pub use Rattle.cweb_input.specs.Include
 pub use Rattle.cweb_input.specs.Lines
 pub use Rattle.cweb_input.specs.surface.OpenedFileNames
-pub use Rattle.cweb_input.specs.surface.Source
 pub use Rattle.cweb_input.specs.OpenSources

@@ -1,4 +1,3 @@
 -- Definitions that only laws cite.
 pub mod Laws
 pub mod MergeOutcome
-pub mod Total

@@ -1,10 +1,9 @@
 //! What holds of every merge. These functions do nothing and exist for their contracts.
 
-ghost use Rattle.cweb_lines.specs.laws.Laws.{ChangesSplice};
-ghost use Rattle.cweb_lines.specs.laws.Laws.{UnmatchedEntriesAreReported, IncludeLinesAreReplaced};
-ghost use Rattle.cweb_lines.specs.laws.Laws.{LinesComeApart};
+ghost use Rattle.cweb_lines.specs.laws.Laws.{ChangesSplice, UnmatchedEntriesAreReported};
+ghost use Rattle.cweb_lines.specs.laws.Laws.{IncludeLinesAreReplaced, LinesComeApart};
 ghost use Rattle.cweb_lines.specs.laws.Laws.{WebsWithoutIncludesAreTheirOwnLines};
-ghost use Rattle.cweb_lines.specs.laws.Total.{HasOneAnswer};
+ghost use Rattle.cweb_lines.specs.laws.MergeOutcome.{HasOneAnswer};
 
 /// Every merge ends and has one result: any number of steps that is enough gives the same.
 pub fn merge_has_one_answer()

@@ -4,8 +4,8 @@ ghost use Rattle.cweb_input.specs.surface.OpenedFileNames.{opened_file_names};
 ghost use Rattle.cweb_input.specs.declared.limits.TheConstants.{OPEN_FILES};
 ghost use Rattle.cweb_input.specs.inner.OpenSources.{AreDeep, maximum_of, line_number, files_up_to};
 ghost use Rattle.cweb_input.specs.surface.OpenSources.{number_or_zero};
-ghost use Rattle.cweb_lines.specs.inner.Faults.{files_of_faults, files_of_stop};
-ghost use Rattle.cweb_lines.specs.inner.Stages.{floor_of, new_depth, files_begun};
+ghost use Rattle.cweb_lines.specs.inner.Stages.{files_of_faults, files_of_stop, floor_of};
+ghost use Rattle.cweb_lines.specs.inner.Stages.{new_depth, files_begun};
 
 use crate::change::Stage;
 use cweb_input::{FileNames, OpenSource, SourceFault, Stack, Stop, TakenCounters};

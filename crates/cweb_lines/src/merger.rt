@@ -1,16 +1,14 @@
 // The merged lines of a web, one after another.
-ghost use Rattle.std.specs.Prelude.{◌≡◌, ◌≤◌, ◌<◌, ◌+◌, ◌^◌, ℕ, List, length};
-ghost use Rattle.std.specs.Prelude.{IfOk, Ok, Err, IfErr, IfSome};
-ghost use Rattle.std.specs.Prelude.{None, Some, All};
+ghost use Rattle.std.specs.Prelude.{◌≡◌, ◌≤◌, ◌<◌, ◌+◌, ◌^◌, ℕ, List, length, IfOk, Ok, Err, IfErr};
+ghost use Rattle.std.specs.Prelude.{IfSome, None, Some, All};
 ghost use Rattle.std.specs.Option.{option_copied};
 ghost use Rattle.cweb_files.specs.Shelves.{Observed};
 ghost use Rattle.cweb_input.specs.Include.{web_at, change_at};
-ghost use Rattle.cweb_lines.specs.inner.LineSpans.{IsSpanIn, span_bytes};
+ghost use Rattle.cweb_lines.specs.inner.Ahead.{IsSpanIn, span_bytes};
 ghost use Rattle.cweb_input.specs.surface.OpenedFileNames.{opened_file_names};
 ghost use Rattle.cweb_lines.specs.inner.Passing.{AppendsPassedLines};
-ghost use Rattle.cweb_input.specs.surface.OpenSources.{StartStops};
-ghost use Rattle.cweb_input.specs.surface.OpenSources.{files_named};
-ghost use Rattle.cweb_lines.specs.surface.MergeReaderNames.{AreReadersKnown};
+ghost use Rattle.cweb_input.specs.surface.OpenSources.{StartStops, files_named};
+ghost use Rattle.cweb_lines.specs.surface.MergerCalls.{AreReadersKnown};
 
 pub mod ahead;
 
@@ -25,15 +23,9 @@ use cweb_input::{FileNames, SourceFault, Stack, Stop, TakenCounters, find_change
 use std::alloc::{AllocError, Global};
 
 /// A web that is being merged. Each call gets the shelf as the previous call left it.
+#[derive(Drop)]
 pub struct Merger<S: Shelf> {
     run: MergeState<S::R>,
-}
-
-// One call frees it, not one per field.
-impl<S: Shelf> Drop for Merger<S> {
-    fn drop(self) {
-        let Merger { run: _ } = self;
-    }
 }
 
 impl<S: Shelf> Merger<S> {
@@ -75,14 +67,8 @@ impl<S: Shelf> Merger<S> {
             return Err(Stop::ChangeNotOpened);
         };
         let mut names = FileNames::new(alloc);
-        let web = match open_web(alloc, &mut names, web) {
-            Ok(web) => web,
-            Err(stop) => return Err(stop),
-        };
-        let change = match open_change(alloc, &mut names, change) {
-            Ok(change) => change,
-            Err(stop) => return Err(stop),
-        };
+        let web = open_web(alloc, &mut names, web)?;
+        let change = open_change(alloc, &mut names, change)?;
         Ok(Merger {
             run: MergeState {
                 alloc,

@@ -2,15 +2,15 @@
 ghost use Rattle.std.specs.Prelude.{◌≡◌, ◌≤◌, ◌++◌, ◌∷◌, ℕ, List, [], length, string_bytes, IfOk};
 ghost use Rattle.std.specs.Prelude.{IfErr, OnOk, true};
 ghost use Rattle.std.specs.Option.{option_copied};
-ghost use Rattle.cweb_input.specs.surface.Finding.{optional_string_bytes};
+ghost use Rattle.cweb_input.specs.surface.OpenedFileNames.{optional_string_bytes};
+ghost use Rattle.cweb_input.specs.surface.OpenedFileNames.{opened_file_names};
 ghost use Rattle.cweb_input.specs.inner.Finding.{found_as, lines_found, IsOpened};
 ghost use Rattle.cweb_input.specs.Include.{names_found};
 ghost use Rattle.cweb_input.specs.Lines.{lines_in};
-ghost use Rattle.cweb_input.specs.surface.OpenedFileNames.{opened_file_names};
 ghost use Rattle.cweb_lines.specs.inner.Stages.{stage_for, begun_stage};
 ghost use Rattle.cweb_input.specs.surface.OpenSources.{lines_left, lines_at, number_or_zero};
+ghost use Rattle.cweb_input.specs.surface.OpenSources.{IsReaderNamed};
 ghost use Rattle.cweb_input.specs.inner.OpenSources.{line_number, files_up_to};
-ghost use Rattle.cweb_input.specs.surface.ReaderNames.{IsReaderNamed};
 
 use crate::change::Stage;
 use cweb_files::FileId;
@@ -44,9 +44,7 @@ pub fn open_web<R: Drop>(
 {
     let Opening { name, reader } = opening;
     let source = Source::new(alloc, reader)?;
-    if let Err(stop) = names.push(name) {
-        return Err(stop);
-    }
+    names.push(name)?;
     Ok(OpenSource {
         source,
         file: FileId(0),
@@ -82,9 +80,7 @@ pub fn open_change<R: Drop>(
     };
     let Opening { name, reader } = opening;
     let source = Source::new(alloc, reader)?;
-    if let Err(stop) = names.push(name) {
-        return Err(stop);
-    }
+    names.push(name)?;
     Ok(Some(OpenSource {
         source,
         file: FileId(1),

@@ -42,14 +42,11 @@ pub use Rattle.cweb_log.specs.CommandLine.{shown_by_default, words_shown, stem, 
 pub use Rattle.cweb_log.specs.CommandLine.{has_extension}
 pub use Rattle.cweb_files.specs.Sinks.{FailsWithin, SinkModel, written}
 pub use Rattle.cweb_files.specs.surface.Writes.{Wrote}
-pub use Rattle.cweb_log.specs.DeviceModels.{Logs}
-pub use Rattle.cweb_log.specs.DeviceModels.{logged, log_failed}
+pub use Rattle.cweb_log.specs.DeviceModels.{Logs, logged, log_failed}
 pub use Rattle.cweb_log.specs.Items.{LogItem, line, star, source_item, name_items, refusal_message}
-pub use Rattle.cweb_log.specs.inner.LogText.{items_of}
-pub use Rattle.cweb_log.specs.inner.Chunks.{joined_parts, part_bytes, chunks_of}
-pub use Rattle.cweb_log.specs.Log.{stop_line}
 pub use Rattle.cweb_log.specs.Items.{cycle_step, scan_item, name_item}
+pub use Rattle.cweb_log.specs.inner.LogText.{items_of, joined_parts, part_bytes, chunks_of, Buffers, AppendsToLog}
+pub use Rattle.cweb_log.specs.Log.{stop_line}
 pub use Rattle.cweb_log.specs.declared.options.Options.{Options}
 pub use Rattle.cweb_log.specs.declared.shown.Shown.{Shown}
-pub use Rattle.cweb_log.specs.inner.LogWriting.{Buffers, AppendsToLog}
 pub use Rattle.cweb_log.specs.surface.Options.{options_of}

@@ -1,3 +1,2 @@
 -- Definitions that public calls cite and the headline does not.
 pub mod Options
-pub mod Parsing

@@ -1,7 +1,7 @@
 // Chunks of log lines, and their parts.
 ghost use Rattle.std.specs.Prelude.{◌≡◌, ◌++◌, codes, decimal};
 ghost use Rattle.cweb_log.specs.Items.{fault, line, located};
-ghost use Rattle.cweb_log.specs.inner.Chunks.{joined_parts, part_bytes};
+ghost use Rattle.cweb_log.specs.inner.LogText.{joined_parts, part_bytes};
 
 /// A part of a chunk.
 #[derive(Clone, Copy)]

@@ -3,9 +3,7 @@ ghost use Rattle.std.specs.Prelude.{◌≡◌, ◌<◌, ◌∷◌, [], length};
 ghost use Rattle.cweb_input.specs.surface.OpenedFileNames.{opened_file_names};
 ghost use Rattle.cweb_log.specs.Items.{line, name_item, scan_item, scan_message, source_item};
 ghost use Rattle.cweb_log.specs.Log.{kind_message};
-ghost use Rattle.cweb_log.specs.inner.LogText.{items_of};
-ghost use Rattle.cweb_log.specs.inner.Chunks.{joined_parts};
-ghost use Rattle.cweb_log.specs.inner.WebItems.{plan_item};
+ghost use Rattle.cweb_log.specs.inner.LogText.{items_of, joined_parts, plan_item};
 
 use crate::chunks::{Chunk, counted_chunk, fault_chunk, located_chunk};
 use crate::log_text::{LogLine, LogText};

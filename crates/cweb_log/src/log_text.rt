@@ -2,7 +2,7 @@
 ghost use Rattle.std.specs.Prelude.{◌≡◌, ◌≤◌, ◌<◌, ◌+◌, ◌∷◌, ◌++◌, [], codes, length, map};
 ghost use Rattle.std.specs.Prelude.{slice_index_or};
 ghost use Rattle.cweb_log.specs.Items.{closing, counts, cycle_step, line, star};
-ghost use Rattle.cweb_log.specs.inner.Chunks.{joined_parts};
+ghost use Rattle.cweb_log.specs.inner.LogText.{joined_parts};
 
 use crate::chunks::{Chunk, NOTHING, Part, between, fault_chunk};
 use crate::faults::{name_fault_chunk, scan_fault_chunk, source_fault_chunk};
@@ -63,7 +63,7 @@ impl<'a> LogLine<'a> {
 }
 
 impl<'a> LogText<'a> {
-    ghost use Rattle.cweb_log.specs.inner.Chunks.{chunks_of};
+    ghost use Rattle.cweb_log.specs.inner.LogText.{chunks_of};
 
     /// The number of chunks.
     pub(crate) fn chunks(self) -> usize

@@ -1,5 +1,5 @@
 // Names of files, of sections and of outputs.
-ghost use Rattle.std.specs.Prelude.{◌≡◌, ◌∷◌, []};
+ghost use Rattle.std.specs.Prelude.{◌≡◌, []};
 ghost use Rattle.cweb_input.specs.surface.OpenedFileNames.{opened_file_names};
 ghost use Rattle.cweb_out.specs.Outputs.{name_spelling, output_name};
 ghost use Rattle.cweb_log.specs.Log.{file_name_at};

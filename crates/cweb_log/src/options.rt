@@ -12,7 +12,7 @@ use std::alloc::{AllocError, Global};
 
 /// The command line of `ctangle`: what the log has beside faults, and the names of the web, the change file and the
 /// main output. `second` is the name that is tried if there is no web of the first name.
-#[derive(Debug)]
+#[derive(Debug, Drop)]
 pub struct Options {
     pub banner: bool,
     pub progress: bool,
@@ -24,25 +24,8 @@ pub struct Options {
     pub main: String,
 }
 
-// One call frees it, not one per field.
-impl Drop for Options {
-    fn drop(self) {
-        let Options {
-            banner: _,
-            progress: _,
-            closing: _,
-            statistics: _,
-            web: _,
-            second: _,
-            change: _,
-            main: _,
-        } = self;
-    }
-}
-
 impl Options {
-    ghost use Rattle.cweb_log.specs.surface.Options.{options_of};
-    ghost use Rattle.cweb_log.specs.surface.Parsing.{Parses};
+    ghost use Rattle.cweb_log.specs.surface.Options.{options_of, Parses};
 
     /// Parses the arguments, without the program's own name. They are checked before anything is allocated.
     pub fn read(alloc: Global, words: &[&str]) -> Result<Options, Stop>

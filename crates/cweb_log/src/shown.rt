@@ -31,10 +31,7 @@ impl Shown {
         };
         'words: for word in words {
             if is_option(word.as_bytes()) {
-                let Some(more) = shown.with_word(word.as_bytes()) else {
-                    return None;
-                };
-                shown = more;
+                shown = shown.with_word(word.as_bytes())?;
             }
         }
         Some(shown)

@@ -1,7 +1,7 @@
 // The line for what stopped a run.
-ghost use Rattle.std.specs.Prelude.{◌≡◌, ◌++◌};
+ghost use Rattle.std.specs.Prelude.{◌≡◌};
 ghost use Rattle.cweb_log.specs.Log.{message_line, stop_line};
-ghost use Rattle.cweb_log.specs.inner.Chunks.{joined_parts};
+ghost use Rattle.cweb_log.specs.inner.LogText.{joined_parts};
 
 use crate::chunks::{Chunk, NOTHING, fault_chunk};
 use cweb_lines::Stop;

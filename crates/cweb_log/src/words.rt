@@ -4,9 +4,9 @@ ghost use Rattle.std.specs.Prelude.{option_map, IfOk};
 ghost use Rattle.std.specs.List.{list_any};
 ghost use Rattle.std.specs.Option.{option_copied};
 ghost use Rattle.cweb_log.specs.CommandLine.{web_names_by, web_names_with, web_names_for};
-ghost use Rattle.cweb_out.specs.Outputs.{is_control};
 ghost use Rattle.cweb_log.specs.CommandLine.{is_dash, is_option, can_name_file};
 ghost use Rattle.cweb_log.specs.CommandLine.{has_extension, extended, second_try};
+ghost use Rattle.cweb_out.specs.Outputs.{is_control};
 
 use cweb_lines::Stop;
 use std::alloc::{AllocError, Global};
@@ -21,8 +21,8 @@ pub struct MergeWords {
 
 impl MergeWords {
     ghost use Rattle.cweb_log.specs.CommandLine.{merge_by};
-    ghost use Rattle.cweb_log.specs.inner.Words.{merge_word_names};
-    ghost use Rattle.cweb_log.specs.surface.Parsing.{Parses};
+    ghost use Rattle.cweb_log.specs.inner.LogText.{merge_word_names};
+    ghost use Rattle.cweb_log.specs.surface.Options.{Parses};
 
     /// Parses the arguments, without the program's own name. They are checked before anything is allocated.
     pub fn read(alloc: Global, words: &[&str]) -> Result<MergeWords, Stop>

@@ -5,9 +5,7 @@ ghost use Rattle.cweb_files.specs.surface.Writes.{Wrote};
 ghost use Rattle.cweb_log.specs.DeviceModels.{Logs};
 ghost use Rattle.cweb_log.specs.Items.{line};
 ghost use Rattle.cweb_log.specs.Log.{stop_line};
-ghost use Rattle.cweb_log.specs.inner.Chunks.{joined_parts, part_bytes};
-ghost use Rattle.cweb_log.specs.inner.LogText.{items_of};
-ghost use Rattle.cweb_log.specs.inner.LogWriting.{AppendsToLog};
+ghost use Rattle.cweb_log.specs.inner.LogText.{joined_parts, part_bytes, items_of, AppendsToLog};
 
 use crate::chunks::Part;
 use crate::log_text::{LogLine, LogText};

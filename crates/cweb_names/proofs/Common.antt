@@ -20,13 +20,16 @@ pub use Rattle.std.specs.Map.{lookup, keys_of}
 pub use Rattle.std.specs.Ordering.{nat_cmp, ordering_then, match_ordering, is_eq, is_le, ordering_reverse}
 pub use Rattle.std.specs.Prelude.{Err, bytes_eq, if◌then◌else◌, nat_eq, filter, option_map, slice_get, unwrap_or}
 pub use Rattle.std.specs.declared.cmp.Ordering.TheVariants.{Less, Equal, Greater}
-pub use Rattle.cweb_texts.specs.inner.Keys.{AreBytes}
+pub use Rattle.cweb_texts.specs.inner.Words.{AreBytes}
 pub use Rattle.cweb_names.specs.Names.{is_prefix_of_another, Occurrence, Name, Resolution, id, spellings}
 pub use Rattle.cweb_names.specs.Names.{with_full_name, with_occurrence_name, names, the_one}
-pub use Rattle.cweb_names.specs.inner.FromNumbers.{beginning_from}
-pub use Rattle.cweb_names.specs.inner.FromNumbers.{names_from}
 pub use Rattle.cweb_names.specs.Names.{resolved_among, resolutions_from, resolutions, beginning}
-pub use Rattle.cweb_names.specs.inner.FromNumbers.{files_from}
+pub use Rattle.cweb_names.specs.inner.Known.{files_from, found_of, is_several, NameEntry}
+pub use Rattle.cweb_names.specs.inner.Known.{compare_bytes, entry_has_prefix, IsNameMap, id_of_spelling, next_begins}
+pub use Rattle.cweb_names.specs.inner.Known.{any_next, ids_with_prefix, early, earlies_from, by_found, has_spelling_at}
+pub use Rattle.cweb_names.specs.inner.Known.{name_at, names_at, AreKnown, NamesSoFar, IsOccurrenceTable, resolve}
+pub use Rattle.cweb_names.specs.inner.Known.{resolve_all, occurrence_form, occurrences_at}
+pub use Rattle.cweb_names.proofs.Terms.{beginning_from, names_from}
 pub use Rattle.cweb_names.specs.declared.found.Found.{Found}
 pub use Rattle.cweb_names.specs.declared.found.Found.TheVariants.{Nothing, One, Several}
 pub use Rattle.cweb_names.specs.declared.name.How.{How}
@@ -34,11 +37,5 @@ pub use Rattle.cweb_names.specs.declared.name.How.TheVariants.{Full, Prefix}
 pub use Rattle.cweb_names.specs.declared.name.NameId.{NameId}
 pub use Rattle.cweb_names.specs.declared.name.NameKind.TheVariants.{NeverFull}
 pub use Rattle.cweb_names.specs.declared.table.OccurrenceForm.{OccurrenceForm}
-pub use Rattle.cweb_names.specs.inner.Found.{found_of, is_several, NameEntry, compare_bytes, entry_has_prefix}
-pub use Rattle.cweb_names.specs.inner.Found.{IsNameMap, id_of_spelling, next_begins, any_next, ids_with_prefix}
-pub use Rattle.cweb_names.specs.inner.Known.{early, earlies_from, by_found, has_spelling_at, name_at, names_at}
-pub use Rattle.cweb_names.specs.inner.Known.{AreKnown, NamesSoFar}
-pub use Rattle.cweb_names.specs.inner.OccurrenceTables.{IsOccurrenceTable, resolve, resolve_all, occurrence_form}
-pub use Rattle.cweb_names.specs.inner.OccurrenceTables.{occurrences_at}
-pub use Rattle.cweb_names.specs.laws.Found.{Distinct}
+pub use Rattle.cweb_names.specs.laws.Names.{Distinct}
 pub use Rattle.cweb_names.specs.surface.Names.{occurrence_of, too_many, occurrence_text}

@@ -9,17 +9,15 @@ grown true v (One n) = Several
 grown true v Several = Several
 
 pub found-first : (n : NameId) (ns : List NameId) → found_of (n ∷ ns) ≡ grown true n (found_of ns)
-found-first n [] = refl
 found-first n (m ∷ []) = refl
-found-first n (m ∷ k ∷ ns) = refl
+found-first n _ = refl
 
 abbrev found : List NameEntry → Found
 found es = found_of (map (λ e. e.1) es)
 
 found-cons : (e : NameEntry) (es : List NameEntry) → found (e ∷ es) ≡ grown true e.1 (found es)
-found-cons e [] = refl
 found-cons e (f ∷ []) = refl
-found-cons e (f ∷ g ∷ es) = refl
+found-cons e _ = refl
 
 found-one : (b : Bool) (e : NameEntry) (es : List NameEntry) → found (cond b (e ∷ es) es) ≡ grown b e.1 (found es)
 found-one true e es = found-cons e es

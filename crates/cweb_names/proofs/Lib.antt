@@ -10,3 +10,4 @@ pub mod OccurrenceLemmas
 pub mod OccurrenceTableLemmas
 mod NeighbourLemmas
 mod KnownLemmas
+pub mod Terms

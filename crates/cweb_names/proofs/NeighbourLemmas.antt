@@ -27,9 +27,8 @@ two e (f ∷ es) h = refl
 more : (b : Bool) (e : NameEntry) (es : List NameEntry) → is_several (found es) ≡ true
     → is_several (found (cond b (e ∷ es) es)) ≡ true
 more false e es h = h
-more true e [] h = cc
 more true e (f ∷ []) h = cc
-more true e (f ∷ g ∷ es) h = refl
+more true e _ h = cc
 
 same-key : (p k : List ℕ) → is_eq (compare_bytes p k) ≡ true → p ≡ k
 same-key p k h = (bytes_decides p k).0 (sym (is_eq-slice_cmp p k) ∙ h)

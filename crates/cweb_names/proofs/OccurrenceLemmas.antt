@@ -74,9 +74,8 @@ pub position-grows : (text : List ℕ) (old new : List Name) → Grows old new
 position-grows text old new g there = grind (arith, strings-append, position-append, there)
 
 by_found-the_one : (ns : List NameId) (otherwise : Resolution) → by_found (found_of ns) otherwise ≡ the_one ns otherwise
-by_found-the_one [] otherwise = refl
 by_found-the_one (n ∷ []) otherwise = refl
-by_found-the_one (n ∷ m ∷ ns) otherwise = refl
+by_found-the_one _ otherwise = refl
 
 abbrev pub late : List Name → List ℕ → Resolution
 late all text = by_found (found_of (beginning text all)) (Err NeverFull)

@@ -9,7 +9,7 @@ use Rattle.cweb_rules.specs.Bytes.{is_white}
 use Rattle.cweb_texts.specs.Edges.{first_is}
 use Rattle.cweb_names.specs.inner.Squeezing.{is_squeezed, is_squeezed_after}
 use Rattle.cweb_names.specs.Names.{squeezed, squeezed_after}
-use Rattle.cweb_names.specs.laws.Squeezed.{is_other, HasSingleBlanks, SpellingsAreSqueezed}
+use Rattle.cweb_names.specs.laws.Names.{is_other, HasSingleBlanks, SpellingsAreSqueezed}
 use Rattle.cweb_names.proofs.Squeezing.{squeezed_by, fits_by, squeezed_stays}
 
 -- The rest after a byte that isn't white, and after white space.

@@ -1,3 +1,2 @@
 -- Definitions that only laws cite.
-pub mod Found
-pub mod Squeezed
+pub mod Names

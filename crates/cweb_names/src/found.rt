@@ -4,7 +4,7 @@ ghost use Rattle.std.specs.Prelude.{◌≡◌, unwrap_or, IfOk, OnErr};
 ghost use Rattle.std.specs.BTreeMap.{insert_entry, is_at, keys};
 ghost use Rattle.std.specs.List.Sorted.{IsStrictlySortedBy};
 ghost use Rattle.std.specs.Map.{lookup};
-ghost use Rattle.cweb_names.specs.inner.Found.{any_next, found_of, ids_with_prefix, compare_bytes};
+ghost use Rattle.cweb_names.specs.inner.Known.{any_next, found_of, ids_with_prefix, compare_bytes};
 
 use crate::name::NameId;
 use crate::sorted::SortKey;
@@ -20,7 +20,7 @@ pub enum Found {
 }
 
 impl Found {
-    ghost use Rattle.cweb_names.specs.inner.Found.{is_several};
+    ghost use Rattle.cweb_names.specs.inner.Known.{is_several};
 
     /// Whether several names fit.
     pub fn is_several(self) -> bool

@@ -4,10 +4,10 @@ ghost use Rattle.std.specs.Prelude.{false, ◌≡◌, ◌<◌, ◌^◌, map, len
 ghost use Rattle.std.specs.Prelude.{option_map, Some, IfOk, IfSome, true, OnOk};
 ghost use Rattle.std.specs.List.{list_any, position_or_len};
 ghost use Rattle.cweb_names.specs.Names.{beginning, is_prefix_of_another, spellings};
-ghost use Rattle.cweb_names.specs.surface.Names.{occurrence_of};
 ghost use Rattle.cweb_names.specs.Names.{with_occurrence_name};
-ghost use Rattle.cweb_names.specs.inner.Found.{found_of};
-ghost use Rattle.cweb_names.specs.inner.Known.{IsNumbered, early, has_spelling_at, no_names};
+ghost use Rattle.cweb_names.specs.surface.Names.{occurrence_of};
+ghost use Rattle.cweb_names.specs.inner.Known.{found_of, IsNumbered, early, has_spelling_at};
+ghost use Rattle.cweb_names.specs.inner.Known.{no_names};
 ghost use Rattle.cweb_texts.specs.inner.StringLists.{string_at};
 
 use crate::found::{Found, find_one, has_prefix, number_in};
@@ -169,11 +169,7 @@ impl<'a> KnownNames<'a> {
     pub fn close(self) -> Vec<u32>
         ensures { result.items ≡ map (λ n. n.first) self.entry.names }
     {
-        let KnownNames {
-            strings: _,
-            firsts,
-            sorted: _,
-        } = self;
+        let KnownNames { firsts, .. } = self;
         firsts
     }
 

@@ -2,7 +2,7 @@
 
 ghost use Rattle.std.specs.Prelude.{◌≡◌, ◌<◌, ◌^◌, length, IfOk};
 ghost use Rattle.cweb_names.specs.Names.{resolved_at};
-ghost use Rattle.cweb_names.specs.inner.OccurrenceTables.{resolve, resolve_all};
+ghost use Rattle.cweb_names.specs.inner.Known.{resolve, resolve_all};
 ghost use Rattle.cweb_texts.specs.inner.StringLists.{string_at};
 
 use crate::found::Found;

@@ -3,10 +3,8 @@
 ghost use Rattle.std.specs.Prelude.{◌≡◌, ◌<◌, ◌+◌, ◌^◌, ◌++◌, ◌∷◌, [], map, length, IfOk, OnOk};
 ghost use Rattle.std.specs.Prelude.{OnErr};
 ghost use Rattle.cweb_names.specs.Names.{names, resolutions};
-ghost use Rattle.cweb_names.specs.inner.FromNumbers.{files_from};
+ghost use Rattle.cweb_names.specs.inner.Known.{files_from, earlies_from, occurrence_form};
 ghost use Rattle.cweb_names.specs.surface.Names.{occurrence_of, occurrence_text, too_many};
-ghost use Rattle.cweb_names.specs.inner.Known.{earlies_from};
-ghost use Rattle.cweb_names.specs.inner.OccurrenceTables.{occurrence_form};
 
 use crate::found::Found;
 use crate::index::NameIndex;
@@ -39,7 +37,7 @@ impl Model for NameTable {
 
     ghost Value = { List Occurrence };
 
-    ghost use Rattle.cweb_names.specs.inner.OccurrenceTables.{IsOccurrenceTable, occurrences_at};
+    ghost use Rattle.cweb_names.specs.inner.Known.{IsOccurrenceTable, occurrences_at};
 
     ghost view = { λ s. occurrences_at s.strings s.forms.items };
 
@@ -111,11 +109,7 @@ impl NameTable {
         ensures strings { result.0 ≡ map occurrence_text self }
         ensures forms { result.1.items ≡ map occurrence_form self }
     {
-        let NameTable {
-            alloc: _,
-            strings,
-            forms,
-        } = self;
+        let NameTable { strings, forms, .. } = self;
         (strings, forms)
     }
 

@@ -20,44 +20,35 @@ pub use Rattle.cweb_names.specs.declared.name.NameId.{NameId}
 pub use Rattle.cweb_names.specs.declared.name.NameRef.{NameRef}
 pub use Rattle.cweb_print.specs.Printing.{without_joined_layout, macro_token_bytes, file_token_bytes, printed_tokens}
 pub use Rattle.cweb_print.specs.Printing.{stays_joined, macro_lines, print_after, starts_line, begin_line}
-pub use Rattle.cweb_print.specs.inner.PrintParts.{last_token}
 pub use Rattle.cweb_print.specs.Printing.{left_after, macro_line, mark_line, Setting, quoted, print, file}
-pub use Rattle.cweb_print.specs.inner.PrintParts.{file_name}
+pub use Rattle.cweb_print.specs.inner.Classes.{file_name, separator, AreDirect, is_direct}
+pub use Rattle.cweb_print.proofs.Terms.{last_token}
 pub use Rattle.cweb_print.specs.Spacing.{sep}
 pub use Rattle.cweb_print.specs.declared.printer.class.Class.{Class}
 pub use Rattle.cweb_print.specs.inner.BufferedPrinting.{PrintsPrefix}
-pub use Rattle.cweb_print.specs.inner.Classes.{separator}
-pub use Rattle.cweb_print.specs.inner.DirectTokens.{AreDirect, is_direct}
-pub use Rattle.cweb_print.specs.surface.Classes.{class_of}
-pub use Rattle.cweb_print.specs.surface.Printed.{setting_of}
-pub use Rattle.cweb_print.specs.surface.TokenRanges.{tokens_of_parts}
+pub use Rattle.cweb_print.specs.surface.Printed.{class_of, setting_of, tokens_of_parts}
 pub use Rattle.cweb_store.specs.Calls.{Stored}
 pub use Rattle.cweb_store.specs.Faults.{has_part}
 pub use Rattle.cweb_store.specs.Parts.{is_layout, Token, has_defs_code, Name, all_tokens, Newline, Defs, Word, Number}
 pub use Rattle.cweb_store.specs.Parts.{Punct, Blank, Join, Head, Tail}
 pub use Rattle.cweb_store.specs.declared.parts.Part.{Part}
-pub use Rattle.cweb_store.specs.surface.TokenModels.{token_model}
+pub use Rattle.cweb_store.specs.surface.Tokens.{token_model}
 pub use Rattle.cweb_texts.specs.Edges.{last_is}
 pub use Rattle.cweb_out.specs.Expansion.{expand, expanded_name, put, cycle_from, walk, ends_below, has_rank}
-pub use Rattle.std.specs.Option.{option_map_or}
 pub use Rattle.cweb_out.specs.Expansion.{first_endless, list_ends, joined, uses, names, program, resolved_use, use_of}
+pub use Rattle.std.specs.Option.{option_map_or}
 pub use Rattle.cweb_out.specs.Outputs.{Planned, Refusal, bad_name, same_name, cycle, file_outputs}
-pub use Rattle.cweb_out.specs.surface.FrameSuffixes.{defs_first}
 pub use Rattle.cweb_out.specs.Outputs.{has_no_program, is_good_name, name_spelling, output_name, output_of, outputs}
 pub use Rattle.cweb_out.specs.Outputs.{planned, planned_apart, planned_ending, root_list, start_of, Output, is_slash}
+pub use Rattle.cweb_out.specs.surface.FrameStacks.{defs_first, left, IsFrameStack, rank, AreOwned, IsOwned}
+pub use Rattle.cweb_out.specs.surface.FrameStacks.{left_at_depth, suffix, FrameIsWithin, PartIsWithin, least, name_rank}
 pub use Rattle.cweb_out.specs.declared.frame.Frame.{Frame}
 pub use Rattle.cweb_out.specs.declared.outputs.search.Waiting.{Waiting}
 pub use Rattle.cweb_out.specs.inner.FrameStacks.{level, work_of, list_work, name_work, token_work, UsesLower, top_rank}
-pub use Rattle.cweb_out.specs.inner.FrameStacks.{Advances, Enters, work_for}
-pub use Rattle.cweb_out.specs.inner.Planning.{IsRoot}
-pub use Rattle.cweb_out.specs.inner.Planning.{is_bad, is_endless}
-pub use Rattle.cweb_out.specs.inner.Search.{AreNew, path_of, PathBegins, IsEndless, Chain, MarksFitPath, marks_left}
-pub use Rattle.cweb_out.specs.inner.Search.{FindsUnranked, IsScanned, is_marked}
-pub use Rattle.cweb_out.specs.inner.Frames.{PassesNoUse}
+pub use Rattle.cweb_out.specs.inner.FrameStacks.{Advances, Enters, work_for, PassesNoUse}
+pub use Rattle.cweb_out.specs.inner.Planning.{IsRoot, is_bad, is_endless}
+pub use Rattle.cweb_out.specs.inner.Search.{AreNew, path_of, PathBegins, IsEndless, Chain}
+pub use Rattle.cweb_out.specs.inner.Search.{MarksFitPath, marks_left, FindsUnranked, IsScanned, is_marked}
 pub use Rattle.cweb_out.specs.laws.Laws.{EachUsesNext, IsCycle, ReplacesUses, is_no_use, is_joined, print_following}
 pub use Rattle.cweb_out.specs.laws.Laws.{is_whole_lines}
-pub use Rattle.cweb_out.specs.surface.FrameStacks.{left, IsFrameStack, rank, AreOwned, IsOwned}
-pub use Rattle.cweb_out.specs.surface.FrameStacks.{left_at_depth}
-pub use Rattle.cweb_out.specs.surface.FrameSuffixes.{suffix, FrameIsWithin, PartIsWithin}
 pub use Rattle.cweb_out.specs.surface.Outputs.{root_at, IsPlanOf}
-pub use Rattle.cweb_out.specs.surface.FrameStacks.{least, name_rank}

@@ -3,7 +3,7 @@ use Rattle.cweb_out.proofs.Common.{ℕ, ◌≡◌, refl, [], ◌∷◌, ◌++◌
 use Rattle.std.specs.Fmt.{digits}
 use Rattle.cweb_out.proofs.PlanExamples.{two, twice}
 use Rattle.cweb_store.specs.Parts.{Mark}
-use Rattle.cweb_out.specs.laws.JoinedTokens.{section_comments}
+use Rattle.cweb_out.specs.laws.Laws.{section_comments}
 
 -- Which names use which in the law of refused cycles.
 each_uses_the_other : IsCycle two (id 0 ∷ id 1 ∷ id 0 ∷ [])

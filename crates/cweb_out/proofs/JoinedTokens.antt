@@ -1,10 +1,9 @@
 -- Only section comments are printed between joined tokens.
 use Rattle.cweb_out.proofs.Common.{◌≡◌, ℕ, Bool, true, false, List, [], ◌∷◌, ◌++◌, refl, sym, ◌∙◌, ap, arith, append_assoc, codes, Option, None, Some, list_all, Token, Punct, Blank, Newline, Join, Defs, Head, Tail, Setting, file_token_bytes, without_joined_layout, left_after, print, print_after, stays_joined, is_joined, sep}
 use Rattle.std.specs.Prelude.{if◌then◌else◌}
-use Rattle.cweb_store.specs.Parts.{Mark}
+use Rattle.cweb_store.specs.Parts.{Mark, is_comment}
 use Rattle.cweb_print.specs.Printing.{plain_bytes}
-use Rattle.cweb_store.specs.Parts.{is_comment}
-use Rattle.cweb_out.specs.laws.JoinedTokens.{blank_if, section_comments, OnlySectionCommentsComeBetweenJoinedTokens}
+use Rattle.cweb_out.specs.laws.Laws.{blank_if, section_comments, OnlySectionCommentsComeBetweenJoinedTokens}
 use Rattle.cweb_out.proofs.LawLemmas.{print_goes_on}
 
 -- The token to the left of a token that comes after a Join.
@@ -48,19 +47,13 @@ same-bytes s l h t e = refl
 
 no-comment : (t : Token) → stays_joined true t ≡ false → is_comment t ≡ false
 no-comment (Head n) e = cc
-no-comment (Tail n) e = cc
-no-comment t e = refl
+no-comment _ e = cc
 
 -- The token stays, and ends the join.
 ends-join : (t : Token) (ts : List Token) → stays_joined true t ≡ false
     → without_joined_layout true (t ∷ ts) ≡ t ∷ without_joined_layout false ts
 ends-join Join ts e = cc
-ends-join Blank ts e = cc
-ends-join Newline ts e = cc
-ends-join (Mark p) ts e = cc
-ends-join (Head n) ts e = cc
-ends-join (Tail n) ts e = cc
-ends-join t ts e = refl
+ends-join _ ts e = cc
 
 module _ (s : Setting) (t : Token) (after : List Token) (ends : stays_joined true t ≡ false) where
   abbrev rest : List ℕ

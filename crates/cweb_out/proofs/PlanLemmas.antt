@@ -6,8 +6,7 @@ use Rattle.std.specs.Str.{IsUtf8, is_utf8}
 use Rattle.std.proofs.lemmas.Str.{IsUtf8-from_is_utf8, is_utf8-from_IsUtf8}
 use Rattle.std.proofs.lemmas.List.{map-append}
 use Rattle.cweb_out.specs.Outputs.{is_control, is_slash, names_no_file}
-use Rattle.cweb_out.specs.inner.Planning.{output_in}
-use Rattle.cweb_out.specs.inner.Planning.{NamesAll, NamesOne, first_cycle, is_bad, is_endless, is_good_path}
+use Rattle.cweb_out.specs.inner.Planning.{output_in, NamesAll, NamesOne, first_cycle, is_bad, is_endless, is_good_path}
 use Rattle.cweb_out.specs.inner.Search.{SettlesList}
 use Rattle.cweb_out.specs.declared.outputs.fault.PlanFault.{PlanFault}
 use Rattle.cweb_out.specs.declared.outputs.planned.Output.{Output}

@@ -3,7 +3,8 @@ use Rattle.cweb_out.proofs.Common.{◌≡◌, ◌<◌, suc, Bool, true, false, n
 use Rattle.std.specs.Prelude.{IfOk, option_map}
 use Rattle.cweb_out.specs.declared.outputs.search.Mark.{Mark}
 use Rattle.cweb_out.specs.declared.outputs.search.Mark.TheVariants.{Waits, Ranked}
-use Rattle.cweb_out.specs.inner.Search.{Chain, MarksFitPath, Goes, IsEndless, Settles, SettlesList, Waited, IsScanned, FindsUnranked, is_marked, mark_of, marks_left}
+use Rattle.cweb_out.specs.inner.Search.{Chain, MarksFitPath, Goes, IsEndless, Settles, SettlesList, Waited, IsScanned}
+use Rattle.cweb_out.specs.inner.Search.{FindsUnranked, is_marked, mark_of, marks_left}
 use Rattle.cweb_out.proofs.Ranks.{rank-grows, rank_by_uses}
 use Rattle.cweb_out.proofs.Circles.{looked-endless}
 use Rattle.cweb_out.proofs.ScannedUses.{looked-all, looked-more}

@@ -1,7 +1,8 @@
 -- The walk along a path that closes is its cycle.
 use Rattle.cweb_out.proofs.Common.{◌≡◌, ◌≤◌, ◌<◌, ◌+◌, ℕ, zero, suc, Bool, true, false, cond, List, [], ◌∷◌, ◌++◌, refl, sym, ◌∙◌, ap, arith, length, inl, inr, append-nil, append_assoc, drop, take, subst, Some, get_or, list_any, position_or_len, length-map, take_more, NameId, is_id, Stored, names, joined, has_rank, first_endless, walk, cycle_from, AreNew, or_right, or_left, ◌⊎◌, Waiting}
 use Rattle.cweb_out.specs.declared.outputs.search.Mark.{Mark}
-use Rattle.cweb_out.specs.inner.Search.{PathBegins, Chain, MarksFitPath, IsEndless, IsScanned, back_to, path_next, path_of, cycle_with_next}
+use Rattle.cweb_out.specs.inner.Search.{PathBegins, Chain, MarksFitPath, IsEndless, IsScanned, back_to, path_next}
+use Rattle.cweb_out.specs.inner.Search.{path_of, cycle_with_next}
 use Rattle.cweb_out.proofs.Ranks.{few, id-same}
 use Rattle.cweb_out.proofs.Circles.{chain-endless, looked-endless, next-on, next-some}
 use Rattle.cweb_out.proofs.Paths.{path-push}

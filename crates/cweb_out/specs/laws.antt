@@ -1,3 +1,2 @@
 -- Definitions that only laws cite.
 pub mod Laws
-pub mod JoinedTokens

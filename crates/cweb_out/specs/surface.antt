@@ -1,4 +1,3 @@
 -- Definitions that public calls cite and the headline does not.
 pub mod Outputs
-pub mod FrameSuffixes
 pub mod FrameStacks

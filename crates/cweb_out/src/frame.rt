@@ -1,14 +1,13 @@
 // Frames: the progress in the list of an output or a name.
 ghost use Rattle.std.specs.Prelude.{◌≡◌, ◌∷◌, [], ◌<◌, false, Some, None, IfSome, length};
 ghost use Rattle.std.specs.List.{list_any};
-ghost use Rattle.cweb_store.specs.inner.Next.{is_name_use};
+ghost use Rattle.cweb_store.specs.inner.Records.{is_name_use};
 ghost use Rattle.cweb_store.specs.Parts.{Name, all_tokens};
-ghost use Rattle.cweb_store.specs.surface.TokenModels.{token_model};
-ghost use Rattle.cweb_out.specs.surface.FrameSuffixes.{PartIsWithin, FrameIsWithin, suffix};
-ghost use Rattle.cweb_out.specs.inner.Frames.{KeepsFrame};
-ghost use Rattle.cweb_print.specs.surface.TokenRanges.{tokens_of_part};
+ghost use Rattle.cweb_store.specs.surface.Tokens.{token_model};
+ghost use Rattle.cweb_out.specs.surface.FrameStacks.{PartIsWithin, FrameIsWithin, suffix};
+ghost use Rattle.cweb_out.specs.inner.FrameStacks.{KeepsFrame, PassesNoUse};
+ghost use Rattle.cweb_print.specs.surface.Printed.{tokens_of_part};
 ghost use Rattle.cweb_out.specs.Outputs.{root_list};
-ghost use Rattle.cweb_out.specs.inner.Frames.{PassesNoUse};
 
 pub mod appending;
 

@@ -1,8 +1,9 @@
 //! Laws of expansion and printing for any web. Each function exists for its contract and does nothing.
 
-ghost use Rattle.cweb_out.specs.laws.JoinedTokens.{OnlySectionCommentsComeBetweenJoinedTokens};
-ghost use Rattle.cweb_out.specs.laws.Laws.{DepthAboveTheRankChangesNothing, ExpansionReplacesUsesAlone};
-ghost use Rattle.cweb_out.specs.laws.Laws.{FilesHaveWholeLines, PrintGoesOn, RanksAreBelowTheNames};
+ghost use Rattle.cweb_out.specs.laws.Laws.{OnlySectionCommentsComeBetweenJoinedTokens};
+ghost use Rattle.cweb_out.specs.laws.Laws.{DepthAboveTheRankChangesNothing};
+ghost use Rattle.cweb_out.specs.laws.Laws.{ExpansionReplacesUsesAlone, FilesHaveWholeLines};
+ghost use Rattle.cweb_out.specs.laws.Laws.{PrintGoesOn, RanksAreBelowTheNames};
 ghost use Rattle.cweb_out.specs.laws.Laws.{RefusedCyclesAreCycles};
 
 /// Uses are replaced and other tokens stay, in order. From the ranks of its names on, the depth of a list's expansion

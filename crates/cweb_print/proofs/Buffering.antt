@@ -2,7 +2,7 @@
 use Rattle.cweb_print.proofs.Common.{◌≡◌, [], List, ℕ, ap, sym, ◌∙◌, SinkModel, written}
 use Rattle.cweb_files.specs.Sinks.{failed_once}
 use Rattle.cweb_files.proofs.Appending.{written_none, written_on}
-use Rattle.cweb_print.specs.inner.Flushing.{FlushesPrefix}
+use Rattle.cweb_print.specs.inner.BufferedPrinting.{FlushesPrefix}
 
 -- A flush leaves what sink and buffer have together unchanged.
 pub moved_same : (before after : List ℕ) (old new : SinkModel) → new ≡ written before old → after ≡ []

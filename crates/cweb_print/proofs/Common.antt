@@ -18,41 +18,34 @@ pub use Rattle.cweb_store.specs.Parts.{is_layout, Token, Word, Number, Literal, 
 pub use Rattle.cweb_store.specs.Parts.{Defs, Name, Head, Tail, Mark, all_tokens, is_macro}
 pub use Rattle.cweb_store.specs.declared.parts.Part.{Part}
 pub use Rattle.cweb_store.specs.declared.parts.PartKind.{PartKind}
+pub use Rattle.cweb_store.specs.surface.Tokens.{numbers_from, numbers_where, token_model}
 pub use Rattle.cweb_store.specs.inner.DirectBytes.{direct_bytes}
-pub use Rattle.cweb_store.specs.surface.Parts.{numbers_from, numbers_where}
-pub use Rattle.cweb_store.specs.surface.TokenModels.{token_model}
 pub use Rattle.cweb_texts.specs.Edges.{is_operator, is_one_of, first_is, last_is}
 pub use Rattle.cweb_texts.specs.contracts.edges.Edge.{the_type}
 pub use Rattle.cweb_texts.specs.declared.edges.Edge.{Edge}
-pub use Rattle.cweb_texts.specs.inner.Edges.{TokenBytesModel, is_high, is_numeric, punctuator_edge, punctuator_edge_by}
-pub use Rattle.cweb_texts.specs.inner.Edges.{token_bytes_model}
+pub use Rattle.cweb_texts.specs.inner.StringLists.{TokenBytesModel, is_high, is_numeric, punctuator_edge}
+pub use Rattle.cweb_texts.specs.inner.StringLists.{punctuator_edge_by, token_bytes_model}
 pub use denote.Enum.Declared.{tag_of}
-pub use Rattle.cweb_print.specs.Printing.{macros, replaced_in, word_bytes, quoted, plain_bytes}
-pub use Rattle.cweb_print.specs.inner.PrintParts.{wants_backslash}
-pub use Rattle.cweb_print.specs.Printing.{Setting, print, stays_joined, macro_line, macro_lines, macro_token_bytes}
-pub use Rattle.cweb_print.specs.Printing.{printed_tokens, without_joined_layout, print_after, file, file_token_bytes}
-pub use Rattle.cweb_print.specs.Printing.{left_after, starts_line, begin_line, mark_line}
-pub use Rattle.cweb_print.specs.inner.PrintParts.{file_name}
-pub use Rattle.cweb_print.specs.inner.PrintParts.{last_token}
-pub use Rattle.cweb_print.specs.Printing.{quoted_byte, word_byte}
+pub use Rattle.cweb_print.specs.Printing.{macros, replaced_in, word_bytes, quoted, plain_bytes, Setting, print}
+pub use Rattle.cweb_print.specs.Printing.{stays_joined, macro_line, macro_lines, macro_token_bytes, printed_tokens}
+pub use Rattle.cweb_print.specs.Printing.{without_joined_layout, print_after, file, file_token_bytes, left_after}
+pub use Rattle.cweb_print.specs.Printing.{starts_line, begin_line, mark_line, quoted_byte, word_byte}
+pub use Rattle.cweb_print.specs.inner.Classes.{wants_backslash, file_name, class_is_glue, class_is_literal}
+pub use Rattle.cweb_print.specs.inner.Classes.{class_is_number, class_is_operator, class_is_point, class_is_wordlike}
+pub use Rattle.cweb_print.specs.inner.Classes.{is_apart, added, continuation_bytes, macro_by, file_by, separator}
+pub use Rattle.cweb_print.specs.inner.Classes.{all_added, begin_by, class_is_line_start, own_line_bytes, AreDirect}
+pub use Rattle.cweb_print.specs.inner.Classes.{is_direct, class_after_edge, edge_is_apart, left_after_edge}
+pub use Rattle.cweb_print.specs.inner.Classes.{continued_by, edge_ends_line}
+pub use Rattle.cweb_print.proofs.Terms.{last_token}
 pub use Rattle.cweb_print.specs.Spacing.{is_wordlike, is_literal, is_number, begins_with, are_apart, sep}
 pub use Rattle.cweb_store.specs.Parts.{is_comment}
 pub use Rattle.cweb_print.specs.declared.buffer.TheConstants.{ROOM}
 pub use Rattle.cweb_print.specs.declared.printer.Printer.{Printer}
 pub use Rattle.cweb_print.specs.declared.printer.class.Class.{Class}
 pub use Rattle.cweb_print.specs.declared.printer.left.Left.{Left}
-pub use Rattle.cweb_print.specs.inner.BufferedPrinting.{AddsBytes, MovesBy, PrintsBy}
-pub use Rattle.cweb_print.specs.inner.Classes.{class_is_glue, class_is_literal, class_is_number, class_is_operator}
-pub use Rattle.cweb_print.specs.inner.Classes.{class_is_point, class_is_wordlike, is_apart, added, continuation_bytes}
-pub use Rattle.cweb_print.specs.inner.Classes.{macro_by, file_by, separator, all_added, begin_by, class_is_line_start}
-pub use Rattle.cweb_print.specs.inner.Classes.{own_line_bytes}
-pub use Rattle.cweb_print.specs.inner.DirectTokens.{AreDirect, is_direct}
-pub use Rattle.cweb_print.specs.inner.EdgeSpacing.{class_after_edge, edge_is_apart, left_after_edge, continued_by}
-pub use Rattle.cweb_print.specs.inner.EdgeSpacing.{edge_ends_line}
-pub use Rattle.cweb_print.specs.inner.Flushing.{blank_where}
+pub use Rattle.cweb_print.specs.inner.BufferedPrinting.{AddsBytes, MovesBy, PrintsBy, blank_where}
 pub use Rattle.cweb_files.specs.Sinks.{FailsWithin, SinkModel, failing, with_printed, written}
 pub use Rattle.cweb_files.specs.surface.Writes.{Wrote}
-pub use Rattle.cweb_print.specs.surface.Classes.{class_by, class_of, left_after_token, punct_class, is_dropped}
-pub use Rattle.cweb_print.specs.surface.Classes.{left_after_tokens, at_start}
-pub use Rattle.cweb_print.specs.surface.Printed.{left_in_printer, setting_of, PrintsToken}
-pub use Rattle.cweb_print.specs.surface.TokenRanges.{tokens_of_part}
+pub use Rattle.cweb_print.specs.surface.Printed.{class_by, class_of, left_after_token, punct_class, is_dropped}
+pub use Rattle.cweb_print.specs.surface.Printed.{left_after_tokens, at_start, left_in_printer, setting_of, PrintsToken}
+pub use Rattle.cweb_print.specs.surface.Printed.{tokens_of_part}

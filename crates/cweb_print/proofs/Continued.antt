@@ -5,7 +5,7 @@ use Rattle.cweb_print.proofs.DirectEdges.{apart-direct}
 use Rattle.cweb_print.proofs.DirectPrinting.{leaves-direct}
 use Rattle.cweb_print.proofs.Ranges.{at_index}
 use Rattle.cweb_print.proofs.TokenReaderSteps.{BorrowsAt, direct-at}
-use Rattle.cweb_print.specs.inner.EdgeSpacing.{token_at}
+use Rattle.cweb_print.specs.inner.Classes.{token_at}
 use Rattle.cweb_print.proofs.Bytes.{ascii_word}
 
 -- The bytes of an optional result.
@@ -20,15 +20,10 @@ word-continued replaced b l true e h = cc
 word-continued replaced b l false e h = ascii_word replaced b e ∙ ap continued_in h
 
 sign-goes_on : (s o p q : Bool) → edge_ends_line (punctuator_edge_by s o p q) ≡ false
-sign-goes_on true o true q = refl
-sign-goes_on true o false true = refl
 sign-goes_on true o false false = refl
-sign-goes_on false true true q = refl
-sign-goes_on false true false true = refl
 sign-goes_on false true false false = refl
-sign-goes_on false false true q = refl
-sign-goes_on false false false true = refl
 sign-goes_on false false false false = refl
+sign-goes_on _ _ _ _ = refl
 
 sign-continued : (b : List ℕ) (l : TokenBytesModel) (high : Bool)
     → cond high None (Some (record { string = b; edge = punctuator_edge b })) ≡ Some l → b ≡ continued_by l

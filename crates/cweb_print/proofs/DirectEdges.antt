@@ -14,15 +14,10 @@ edge_of_class b d l true h = cc
 edge_of_class b d l false h = ap edge_in (sym h)
 
 sign-class : (s o p q : Bool) → class_after_edge (punctuator_edge_by s o p q) ≡ class_by p q
-sign-class true o true q = refl
-sign-class true o false true = refl
 sign-class true o false false = refl
-sign-class false true true q = refl
-sign-class false true false true = refl
 sign-class false true false false = refl
-sign-class false false true q = refl
-sign-class false false false true = refl
 sign-class false false false false = refl
+sign-class _ _ _ _ = refl
 
 pub class-direct : (t : Token) (l : TokenBytesModel) → direct_bytes t ≡ Some l
     → class_after_edge l.edge ≡ class_of (Some t)
@@ -72,15 +67,10 @@ abbrev before_edge : Class → Bool → Bool → Bool
 before_edge c s o = cond s (class_is_number c || class_is_operator c) (cond o (class_is_operator c) false)
 
 sign-first : (c : Class) (s o p q : Bool) → before_edge c s o ≡ edge_is_apart c (punctuator_edge_by s o p q)
-sign-first c true o true q = refl
-sign-first c true o false true = refl
 sign-first c true o false false = refl
-sign-first c false true true q = refl
-sign-first c false true false true = refl
 sign-first c false true false false = refl
-sign-first c false false true q = refl
-sign-first c false false false true = refl
 sign-first c false false false false = refl
+sign-first c _ _ _ _ = refl
 
 sign-known : (c : Class) (s o : Bool) → (s ≡ true → o ≡ true) → before_sign c s o ≡ before_edge c s o
 sign-known c true false h = let no : false ≡ true = h refl in cc

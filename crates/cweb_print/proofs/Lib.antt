@@ -13,3 +13,4 @@ pub mod TokenReaderSteps
 pub mod DirectPrefixes
 pub mod Buffering
 pub mod Continued
+pub mod Terms

@@ -1,5 +1,5 @@
 -- Printing token by token: the output of each one follows from the printer's state.
-use Rattle.cweb_print.proofs.Common.{arith, ◌≡◌, ℕ, Bool, true, false, ◌&&◌, ◌||◌, not, cond, List, [], ◌∷◌, ◌++◌, refl, sym, ◌∙◌, ap, append_assoc, append-nil, Option, None, Some, codes, nat_eq, fold, Token, Word, Number, Literal, Verbatim, Punct, Blank, Newline, Join, Defs, Name, Head, Tail, Mark, is_operator, is_one_of, is_wordlike, is_literal, is_number, is_comment, begins_with, are_apart, sep, macro_token_bytes, printed_tokens, Setting, stays_joined, is_layout, without_joined_layout, print_after, print, file, file_token_bytes, last_token, left_after, starts_line, begin_line, macro_lines, mark_line, file_name, Class, Left, class_by, class_of, class_is_line_start, is_apart, separator, left_after_token, at_start, left_after_tokens, added, all_added, begin_by, file_by, macro_by, second_so, last_is}
+use Rattle.cweb_print.proofs.Common.{arith, ◌≡◌, ℕ, Bool, true, false, ◌&&◌, ◌||◌, not, cond, List, [], ◌∷◌, ◌++◌, refl, sym, ◌∙◌, ap, append_assoc, append-nil, Option, None, Some, codes, nat_eq, fold, Token, Word, Punct, Blank, Defs, Mark, is_operator, is_one_of, is_wordlike, is_literal, is_number, is_comment, begins_with, are_apart, sep, macro_token_bytes, printed_tokens, Setting, stays_joined, is_layout, without_joined_layout, print_after, print, file, file_token_bytes, last_token, left_after, starts_line, begin_line, macro_lines, mark_line, file_name, Class, Left, class_by, class_of, class_is_line_start, is_apart, separator, left_after_token, at_start, left_after_tokens, added, all_added, begin_by, file_by, macro_by, second_so, last_is}
 use Rattle.cweb_print.proofs.Lasts.{point-operator}
 
 -- The tests of a punctuator to the left agree with its class.
@@ -23,25 +23,12 @@ sep_by_class None t = refl
 sep_by_class (Some u) t = ap (λ b. cond b (codes " ") []) (apart_by_class u t)
 
 class_by_starts : (d o : Bool) → false ≡ class_is_line_start (class_by d o)
-class_by_starts true o = refl
 class_by_starts false true = refl
-class_by_starts false false = refl
+class_by_starts _ _ = refl
 
 starts_by_class : (l : Option Token) → starts_line l ≡ class_is_line_start (class_of l)
-starts_by_class None = refl
-starts_by_class (Some (Word b)) = refl
-starts_by_class (Some (Number b)) = refl
-starts_by_class (Some (Literal b)) = refl
-starts_by_class (Some (Verbatim b)) = refl
 starts_by_class (Some (Punct b)) = class_by_starts (last_is (λ x. nat_eq x 46) b) (last_is is_operator b)
-starts_by_class (Some Blank) = refl
-starts_by_class (Some Newline) = refl
-starts_by_class (Some Join) = refl
-starts_by_class (Some Defs) = refl
-starts_by_class (Some (Name r)) = refl
-starts_by_class (Some (Head n)) = refl
-starts_by_class (Some (Tail n)) = refl
-starts_by_class (Some (Mark p)) = refl
+starts_by_class _ = refl
 
 pub begin_by_class : (l : Option Token) → begin_line l ≡ begin_by (class_of l)
 begin_by_class l = ap (λ b. cond b [] (codes "\n")) (starts_by_class l)
@@ -61,10 +48,6 @@ macro_agrees replaced l _ = refl
 
 layout_stays : (joined : Bool) (t : Token) → is_layout t ≡ true → stays_joined joined t ≡ joined
 layout_stays joined Blank h = refl
-layout_stays joined Newline h = refl
-layout_stays joined (Mark p) h = refl
-layout_stays joined (Head n) h = refl
-layout_stays joined (Tail n) h = refl
 layout_stays joined _ h = cc
 
 -- The output of a list after a token is that of its tokens from the state.

@@ -4,10 +4,9 @@ use Rattle.std.specs.Prelude.{if◌then◌else◌, Option, Some, None, flat_map,
 use Rattle.std.specs.Prelude.{◌||◌, unwrap_or}
 use Rattle.std.specs.List.{last_or}
 use Rattle.cweb_store.specs.Parts.{Token, Word, Number, Literal, Verbatim, Punct, Blank, Newline, Join, Defs, Head}
-use Rattle.cweb_store.specs.Parts.{Tail, Mark, is_layout, is_macro}
+use Rattle.cweb_store.specs.Parts.{Tail, Mark, is_layout, is_macro, is_comment}
 use Rattle.cweb_texts.specs.Edges.{is_one_of}
 use Rattle.cweb_print.specs.Spacing.{sep}
-use Rattle.cweb_store.specs.Parts.{is_comment}
 use Rattle.cweb_store.specs.Parts as parts
 use Rattle.cweb_store.specs.Calls.{Stored, replacement}
 

@@ -3,7 +3,7 @@ ghost use Rattle.std.specs.Prelude.{◌≡◌, ◌≤◌, ◌<◌, ◌+◌, ◌^
 ghost use Rattle.std.specs.Prelude.{IfErr, IsOk, OnErr, OnOk};
 ghost use Rattle.cweb_files.specs.surface.Writes.{CountsFailure};
 ghost use Rattle.cweb_files.specs.Sinks.{failing, with_printed, written};
-ghost use Rattle.cweb_print.specs.inner.Flushing.{FlushesPrefix};
+ghost use Rattle.cweb_print.specs.inner.BufferedPrinting.{FlushesPrefix};
 
 pub mod copying;
 
@@ -30,9 +30,9 @@ pub struct OutBuffer {
 }
 
 impl Model for OutBuffer {
-    ghost use Rattle.std.specs.Prelude.{◌≡◌, ◌≤◌, ℕ, List, length, take};
+    ghost use Rattle.std.specs.Prelude.{◌≡◌, ◌≤◌, length, take};
     ghost use Rattle.std.specs.Box.{boxed_slice_items};
-    ghost use Rattle.cweb_print.specs.inner.Buffered.{Buffered};
+    ghost use Rattle.cweb_print.specs.inner.BufferedPrinting.{Buffered};
     ghost use Rattle.cweb_print.specs.declared.buffer.TheConstants.{ROOM};
 
     ghost Value = { Buffered };
@@ -102,7 +102,7 @@ impl OutBuffer {
 }
 
 impl Sink for OutBuffer {
-    ghost use Rattle.cweb_print.specs.inner.Buffered.{buffer_model};
+    ghost use Rattle.cweb_print.specs.inner.BufferedPrinting.{buffer_model};
 
     ghost model = { buffer_model };
 

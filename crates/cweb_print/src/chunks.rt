@@ -1,7 +1,7 @@
 // Writes byte chunks in order.
-ghost use Rattle.std.specs.Prelude.{◌≡◌, ◌<◌, ◌+◌, ◌^◌, ◌++◌};
+ghost use Rattle.std.specs.Prelude.{◌<◌, ◌+◌, ◌^◌, ◌++◌};
 ghost use Rattle.cweb_files.specs.surface.Writes.{Wrote};
-ghost use Rattle.cweb_print.specs.inner.Flushing.{blank_where};
+ghost use Rattle.cweb_print.specs.inner.BufferedPrinting.{blank_where};
 
 use cweb_files::{Sink, SinkFault, write_all};
 

@@ -2,13 +2,11 @@
 ghost use Rattle.std.specs.Prelude.{◌≡◌, ◌<◌, ◌+◌, ◌^◌, [], OnOk, OnErr};
 ghost use Rattle.cweb_files.specs.surface.Writes.{Wrote};
 ghost use Rattle.cweb_input.specs.surface.OpenedFileNames.{opened_file_names};
-ghost use Rattle.cweb_store.specs.surface.TokenModels.{token_model};
+ghost use Rattle.cweb_store.specs.surface.Tokens.{token_model};
 ghost use Rattle.cweb_print.specs.inner.Classes.{added, begin_by, file_by, own_line_bytes};
-ghost use Rattle.cweb_print.specs.surface.Classes.{left_after_tokens};
-ghost use Rattle.cweb_print.specs.surface.Printers.{MarkFileIsNamed};
+ghost use Rattle.cweb_print.specs.surface.Printed.{left_after_tokens, MarkFileIsNamed, EndsFile};
+ghost use Rattle.cweb_print.specs.surface.Printed.{Moves, PrintsToken, left_in_printer, setting_of};
 ghost use Rattle.cweb_print.specs.Printing.{setting};
-ghost use Rattle.cweb_print.specs.surface.Printed.{EndsFile, Moves, PrintsToken, left_in_printer};
-ghost use Rattle.cweb_print.specs.surface.Printed.{setting_of};
 
 pub mod buffered;
 pub mod class;

@@ -16,21 +16,21 @@ pub use Rattle.std.proofs.lemmas.List.Sums.{prefix_len-le-length, prefix_len_is}
 pub use Rattle.std.specs.Cmp.{second_so}
 pub use Rattle.std.specs.Fmt.{decimal}
 pub use Rattle.std.specs.List.{prefix_len, list_all, flat_map, position_or_len, fold, starts_with}
+pub use Rattle.std.specs.List.{list_any}
 pub use Rattle.std.specs.Option.{unwrap_or}
 pub use Rattle.std.specs.Prelude.{codes, if◌then◌else◌, nat_le, nat_lt, min, bytes_eq}
-pub use Rattle.std.specs.List.{list_any}
 pub use Rattle.cweb_files.specs.declared.place.Place.{Place}
 pub use Rattle.memchr.specs.Find.{IsFirstByte, is_byte2, is_byte3, is_byte}
 pub use Rattle.cweb_rules.specs.Bytes.{is_blank, is_line_end, is_word_byte, begins, starts_section}
-pub use Rattle.cweb_texts.specs.Edges.{first_is, is_one_of}
 pub use Rattle.cweb_rules.specs.Bytes.{at_line_end, is_delimiter, is_digit, is_gap, is_octal, is_hex}
 pub use Rattle.cweb_rules.specs.Bytes.{is_replacing, starts_number, listed, longest, number_len, continues_number}
+pub use Rattle.cweb_texts.specs.Edges.{first_is, is_one_of}
 pub use Rattle.cweb_rules.specs.Codes.{in_c, in_limbo, in_tex, in_macro}
 pub use Rattle.cweb_rules.specs.Constants.{letter, constant, character, escapes, escaped, octal}
-pub use Rattle.cweb_rules.specs.inner.FaultyConstants.{octal_value}
 pub use Rattle.cweb_rules.specs.Constants.{after_backslash, is_plain_character, character_at, faulty_size, constant_of}
 pub use Rattle.cweb_rules.specs.Constants.{hex_at, letter_with, letter_after}
-pub use Rattle.cweb_rules.specs.inner.FaultyConstants.{ends_faulty}
+pub use Rattle.cweb_rules.specs.inner.Rules.{octal_value, ends_faulty, in_class, seconds, second_is, is_listed}
+pub use Rattle.cweb_rules.specs.inner.Rules.{begins_triple, begins_pair, c_rule, c_match_by, is_settled}
 pub use Rattle.cweb_rules.specs.Items.{Reach, reach_in, with_unit, reach_size, body, reach}
 pub use Rattle.cweb_rules.specs.Items.{look_in_literal, look_in_comment}
 pub use Rattle.cweb_rules.specs.Items.{look_in_control, look_in_name, look_in_include}
@@ -45,8 +45,8 @@ pub use Rattle.cweb_rules.specs.Matches.{raw_closer, include_match, macro_match,
 pub use Rattle.cweb_rules.specs.Matches.{head_match, RuleMatch, Kind, Code, Section, Blanks, LineEnd, Quoted}
 pub use Rattle.cweb_rules.specs.Matches.{Identifier, Numeral, Punctuator, rule_match, Comment, Skipped, Letter}
 pub use Rattle.cweb_rules.specs.Matches.{Verbatim, Constant, Occurrence, Defined}
-pub use Rattle.cweb_rules.specs.inner.Reaches.{reach_of_control_text, reach_of_name, reach_of_literal}
-pub use Rattle.cweb_rules.specs.inner.Reaches.{reach_of_included_name, reach_of_raw_literal}
+pub use Rattle.cweb_rules.proofs.ItemReaches.{reach_of_control_text, reach_of_name, reach_of_literal}
+pub use Rattle.cweb_rules.proofs.ItemReaches.{reach_of_included_name, reach_of_raw_literal}
 pub use Rattle.cweb_rules.specs.declared.constants.Character.{Character}
 pub use Rattle.cweb_rules.specs.declared.constants.Transliteration.{Transliteration}
 pub use Rattle.cweb_rules.specs.declared.constants.Valued.{Valued}
@@ -64,14 +64,10 @@ pub use Rattle.cweb_rules.specs.declared.items.Reached.{Reached}
 pub use Rattle.cweb_rules.specs.declared.look.Look.{Look}
 pub use Rattle.cweb_rules.specs.declared.look.Look.TheVariants.{Goes, Ends}
 pub use Rattle.cweb_rules.specs.declared.rule.Rule.{Rule}
-pub use Rattle.cweb_rules.specs.inner.ByteClasses.{in_class}
 pub use Rattle.cweb_rules.specs.inner.LineItems.{opens_effect, opens_code, opens_comment, opens_raw, opens_literal}
 pub use Rattle.cweb_rules.specs.inner.LineItems.{c_opens, tex_opens, IsLine, AtLineEnd, opens_name, macro_opens}
-pub use Rattle.cweb_rules.specs.inner.LineItems.{opens_in, is_unclosed}
-pub use Rattle.cweb_rules.specs.inner.Looks.{look_of, reached}
-pub use Rattle.cweb_rules.specs.inner.PlainBytes.{is_raw_special, is_special, is_plain}
-pub use Rattle.cweb_rules.specs.inner.Punctuators.{seconds, second_is, is_listed, begins_triple, begins_pair}
-pub use Rattle.cweb_rules.specs.inner.Rules.{c_rule, c_match_by, is_settled}
-pub use Rattle.cweb_rules.specs.laws.Follows.{is_quiet, JoinsAll, IsToken, all_join, after_word, after_number}
-pub use Rattle.cweb_rules.specs.laws.Follows.{joins_last, continues_lexeme, emits_at, is_token, begins_as}
-pub use Rattle.cweb_rules.specs.laws.Pays.{at_line_ends, Pays, FitsAndPays}
+pub use Rattle.cweb_rules.specs.inner.LineItems.{opens_in, is_unclosed, look_of, reached, is_raw_special, is_special}
+pub use Rattle.cweb_rules.specs.inner.LineItems.{is_plain}
+pub use Rattle.cweb_rules.specs.laws.Laws.{is_quiet, JoinsAll, IsToken, all_join, after_word, after_number, joins_last}
+pub use Rattle.cweb_rules.specs.laws.Laws.{continues_lexeme, emits_at, is_token, begins_as, at_line_ends, Pays}
+pub use Rattle.cweb_rules.specs.laws.Laws.{FitsAndPays}

@@ -2,7 +2,8 @@
 use Rattle.cweb_rules.proofs.Common.{◌≡◌, ℕ, Bool, true, false, ◌||◌, ◌&&◌, ◌==◌, not, ◌≤◌, List, [], ◌∷◌, length, slice_index_or, refl, ap, sym, ◌∙◌, subst, arith, if◌then◌else◌, codes, list_all, eqb-true, begins, is_blank, is_digit, is_one_of, is_word_byte, starts_section, has_quote_at, literal_prefix, raw_prefix, starts_include, starts_literal, starts_raw, first_is, c_rule, is_settled, starts_number, and-false, and_parts}
 use Rattle.cweb_rules.specs.declared.firsts.Plain.{Plain}
 use Rattle.cweb_rules.specs.declared.firsts.Plain.TheVariants as plain
-use Rattle.cweb_rules.specs.inner.Firsts.{is_single_punctuator, is_figure, stops_plain, is_less, is_quote, first_byte_class}
+use Rattle.cweb_rules.specs.inner.Rules.{is_single_punctuator, is_figure, stops_plain, is_less, is_quote}
+use Rattle.cweb_rules.specs.inner.Rules.{first_byte_class}
 use Rattle.cweb_rules.specs.declared.rule.Rule.TheVariants as rule
 use Rattle.cweb_rules.proofs.Seams.{differs}
 

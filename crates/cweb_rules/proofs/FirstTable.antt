@@ -1,6 +1,6 @@
 -- The table of first bytes agrees with its definition.
 use Rattle.cweb_rules.proofs.Common.{◌≡◌, ◌<◌, ℕ, zero, suc, ◌+◌, Bool, true, ◌&&◌, ◌==◌, List, [], ◌∷◌, ◌++◌, length, replicate, slice_index_or, refl, ap, sym, ◌∙◌, arith, eqb-true, and_parts}
-use Rattle.cweb_rules.specs.inner.Firsts.{first_byte_class}
+use Rattle.cweb_rules.specs.inner.Rules.{first_byte_class}
 use Rattle.cweb_rules.specs.declared.firsts.Plain.{Plain}
 use Rattle.cweb_rules.specs.declared.firsts.Plain.TheVariants.{Lone, Operator, Digit, Quote, Stop, Blank, Word, Further}
 

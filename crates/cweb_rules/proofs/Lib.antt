@@ -7,7 +7,6 @@ pub mod Seams
 pub mod Sizes
 pub mod TokenSizes
 pub mod ByRules
-pub mod Reaches
 pub mod Looks
 mod Reaching
 pub mod Ranges
@@ -37,3 +36,5 @@ pub mod UnitNewlines
 pub mod Newlines
 pub mod FirstBytes
 pub mod WordTable
+pub mod Reaches
+pub mod ItemReaches

@@ -1,6 +1,6 @@
 -- Worked examples of lexemes.
 use Rattle.cweb_rules.proofs.Common.{◌≡◌, true, false, Some, None, [], ◌∷◌, codes, Place, Limbo, TeX, Definition, Macro, CText, Faulty, Closed, Cut, Nested, DoubleAtInLimbo, IgnoredInCText, match_in, Skipped, Section, Code, Letter, Constant, Occurrence, Comment, Quoted, Defined, Numeral, Punctuator, rule_match, Goes, Ends, look_in_control}
-use Rattle.cweb_rules.specs.inner.Reaches.{reach_of_control_text}
+use Rattle.cweb_rules.proofs.ItemReaches.{reach_of_control_text}
 
 abbrev here : Place
 here = record { file = record { 0 = 0 }; line = 1 }

@@ -1,4 +1,2 @@
 -- Definitions that only laws cite.
-pub mod Pays
-pub mod Follows
-pub mod Reaching
+pub mod Laws

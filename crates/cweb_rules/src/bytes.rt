@@ -3,8 +3,8 @@ ghost use Rattle.std.specs.Prelude.{◌≡◌, ◌≤◌, IsTrue, length, take, 
 ghost use Rattle.std.specs.List.{prefix_len};
 ghost use Rattle.cweb_rules.specs.Bytes as spec;
 ghost use Rattle.cweb_texts.specs.Edges.{first_is};
-ghost use Rattle.cweb_rules.specs.inner.ByteClasses.{in_class};
-ghost use Rattle.cweb_rules.specs.inner.Spans.{IsSizeIn};
+ghost use Rattle.cweb_rules.specs.inner.Rules.{in_class};
+ghost use Rattle.cweb_rules.specs.inner.LineItems.{IsSizeIn};
 
 /// A class of bytes.
 #[derive(Clone, Copy)]

@@ -3,8 +3,8 @@ ghost use Rattle.std.specs.Prelude.{◌≡◌, ◌≤◌, ◌<◌, ◌+◌, leng
 ghost use Rattle.std.specs.List.{position_or_len};
 ghost use Rattle.cweb_rules.specs.Bytes as bytes;
 ghost use Rattle.cweb_rules.specs.Constants as spec;
-ghost use Rattle.cweb_rules.specs.inner.FaultyConstants.{ends_faulty, octal_value};
-ghost use Rattle.cweb_rules.specs.inner.Spans.{IsSizeIn};
+ghost use Rattle.cweb_rules.specs.inner.Rules.{ends_faulty, octal_value};
+ghost use Rattle.cweb_rules.specs.inner.LineItems.{IsSizeIn};
 
 use crate::bytes::{Class, begins, is_digit, is_hex, span_len};
 

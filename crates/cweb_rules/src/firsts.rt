@@ -1,6 +1,6 @@
 // Classes of the first byte of a lexeme of C text.
 ghost use Rattle.std.specs.Prelude.{◌≡◌, ◌≤◌, length};
-ghost use Rattle.cweb_rules.specs.inner.Firsts.{past_blank, first_byte_class};
+ghost use Rattle.cweb_rules.specs.inner.Rules.{past_blank, first_byte_class};
 
 use crate::firsts::Plain::{Blank, Digit, Further, Lone, Operator, Quote, Stop, Word};
 

@@ -1,10 +1,8 @@
 // Delimited items: control texts, names, comments, literals and included names.
 ghost use Rattle.std.specs.Prelude.{◌≡◌, ◌≤◌, ◌<◌, ◌+◌, length};
 ghost use Rattle.cweb_rules.specs.Items as spec;
-ghost use Rattle.cweb_rules.specs.inner.Looks.{look_of, reached, MovesOn};
+ghost use Rattle.cweb_rules.specs.inner.LineItems.{look_of, reached, MovesOn, IsSizeIn, is_plain};
 ghost use Rattle.cweb_rules.specs.declared.end.End.TheVariants as how;
-ghost use Rattle.cweb_rules.specs.inner.Spans.{IsSizeIn};
-ghost use Rattle.cweb_rules.specs.inner.PlainBytes.{is_plain};
 ghost use Rattle.std.specs.List.{prefix_len};
 
 use crate::bytes::{Class, at_line_end, begins, span_len, starts_section};

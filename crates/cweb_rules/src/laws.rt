@@ -3,11 +3,10 @@
 ghost use Rattle.std.specs.Prelude.{◌≡◌, ◌+◌, ℕ, Bool, true, false, List, ◌∷◌, ◌++◌, codes, length};
 ghost use Rattle.std.specs.List.{list_all};
 ghost use Rattle.cweb_texts.specs.Edges.{first_is};
-ghost use Rattle.cweb_rules.specs.laws.Follows.{JoinsAll, IsToken, continues_lexeme, begins_as};
-ghost use Rattle.cweb_rules.specs.laws.Follows.{is_quiet};
+ghost use Rattle.cweb_rules.specs.laws.Laws.{JoinsAll, IsToken, continues_lexeme, begins_as};
+ghost use Rattle.cweb_rules.specs.laws.Laws.{is_quiet, FitsAndPays, ItemsEndAtTheirFirstEnd};
+ghost use Rattle.cweb_rules.specs.laws.Laws.{RulesPassBytes};
 ghost use Rattle.cweb_rules.specs.Matches.{match_in, Kind, Comment, rule_match};
-ghost use Rattle.cweb_rules.specs.laws.Pays.{FitsAndPays};
-ghost use Rattle.cweb_rules.specs.laws.Reaching.{ItemsEndAtTheirFirstEnd, RulesPassBytes};
 ghost use Rattle.cweb_rules.specs.declared.context.Context.{Context};
 ghost use Rattle.cweb_rules.specs.declared.context.Context.TheVariants.{CText};
 ghost use Rattle.cweb_rules.specs.declared.end.End.TheVariants.{Closed};

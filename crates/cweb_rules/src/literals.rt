@@ -1,8 +1,7 @@
 // How literals of C text begin.
 ghost use Rattle.std.specs.Prelude.{◌≡◌, ◌<◌, ◌+◌, length, true, IfOk, IsTrue};
 ghost use Rattle.cweb_rules.specs.Matches as spec;
-ghost use Rattle.cweb_rules.specs.inner.RawOpeners.{raw_opener_len, raw_closer_of};
-ghost use Rattle.cweb_rules.specs.inner.Spans.{IsSizeIn};
+ghost use Rattle.cweb_rules.specs.inner.LineItems.{raw_opener_len, raw_closer_of, IsSizeIn};
 
 use crate::bytes::{Class, begins, span_len};
 use std::alloc::{AllocError, Global};

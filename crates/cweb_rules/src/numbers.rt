@@ -1,7 +1,7 @@
 // Numbers of C text, like the preprocessing numbers of the C standard.
 ghost use Rattle.std.specs.Prelude.{◌≡◌, length};
 ghost use Rattle.cweb_rules.specs.Bytes as spec;
-ghost use Rattle.cweb_rules.specs.inner.Spans.{IsSizeIn};
+ghost use Rattle.cweb_rules.specs.inner.LineItems.{IsSizeIn};
 
 use crate::bytes::{is_digit, is_word_byte};
 

@@ -1,9 +1,8 @@
 // Spans of plain bytes: bytes of an item that are units of their own.
 ghost use Rattle.std.specs.Prelude.{◌==◌, ◌||◌, length, not};
 ghost use Rattle.std.specs.List.{prefix_len};
-ghost use Rattle.cweb_rules.specs.inner.PlainBytes.{is_plain, is_raw_special};
+ghost use Rattle.cweb_rules.specs.inner.LineItems.{is_plain, is_raw_special, IsSizeIn};
 ghost use Rattle.memchr.specs.Find.{is_byte, is_byte2, is_byte3};
-ghost use Rattle.cweb_rules.specs.inner.Spans.{IsSizeIn};
 
 use crate::items::Item;
 use memchr::{memchr, memchr2, memchr3};

@@ -1,7 +1,7 @@
 // The quotes of literals.
 ghost use Rattle.std.specs.Prelude.{◌≡◌};
 ghost use Rattle.cweb_rules.specs.Matches as rules;
-ghost use Rattle.cweb_rules.specs.inner.Quotes.{quote_byte};
+ghost use Rattle.cweb_rules.specs.inner.WholeLiterals.{quote_byte};
 
 use crate::bytes::begins;
 

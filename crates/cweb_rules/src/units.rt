@@ -1,9 +1,8 @@
 // The units of delimited items: the bytes that they emit, and those over a line end.
 ghost use Rattle.std.specs.Prelude.{◌≡◌, ◌++◌, OnOk};
 ghost use Rattle.cweb_rules.specs.Items as items;
-ghost use Rattle.cweb_rules.specs.inner.Looks.{look_of};
+ghost use Rattle.cweb_rules.specs.inner.LineItems.{look_of, goes_on};
 ghost use Rattle.cweb_rules.specs.declared.end.End.TheVariants as how;
-ghost use Rattle.cweb_rules.specs.inner.LineItems.{goes_on};
 
 use crate::items::Item;
 use crate::look::Look;

@@ -1,6 +1,6 @@
 -- C text outside directives: a blank before a lexeme.
 use Rattle.cweb_scan.proofs.Common.{◌≡◌, ◌≤◌, ℕ, ◌+◌, Bool, true, false, ◌==◌, List, [], ◌∷◌, ◌++◌, length, drop, refl, ap, sym, ◌∙◌, subst, arith, if◌then◌else◌, prefix_len, eqb-true, is_blank, IsLine, c_rule, ReaderModel, TakesPrefix, read_on, TakesPlain, ScanState, IsPlainC, drop-sum, if_true}
-use Rattle.cweb_rules.specs.inner.Firsts.{past_blank}
+use Rattle.cweb_rules.specs.inner.Rules.{past_blank}
 use Rattle.cweb_rules.specs.declared.rule.Rule.TheVariants as rule
 use Rattle.cweb_scan.proofs.PlainLexemes.{left_line, some_goes_on, TakesSome}
 use Rattle.cweb_scan.proofs.Plains.{blanks_turn}

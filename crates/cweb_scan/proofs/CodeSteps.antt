@@ -44,7 +44,6 @@ plain_prefix c includes u head section at plain =
 
 text_is : (c : Context) → reads_c c ≡ false → is_text c ≡ true
 text_is Limbo h = refl
-text_is TeX h = refl
 text_is _ h = cc
 
 pub text_head : (c : Context) → reads_c c ≡ false → is_head c ≡ false

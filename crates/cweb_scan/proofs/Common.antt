@@ -24,16 +24,14 @@ pub use Rattle.cweb_input.specs.declared.limits.TheConstants.{LINES, BYTES}
 pub use Rattle.cweb_input.specs.declared.open_source.OpenSource.{OpenSource}
 pub use Rattle.cweb_input.specs.declared.stop.Stop.{Stop}
 pub use Rattle.cweb_input.specs.declared.stop.Stop.TheVariants.{ReadFault, LineTooLong, TooMuchText, Memory}
-pub use Rattle.cweb_input.specs.surface.Lines.{HasNoNewline}
+pub use Rattle.cweb_input.specs.surface.OpenedFileNames.{HasNoNewline, opened_file_names}
 pub use Rattle.cweb_input.specs.surface.OpenSources.{StopsFor}
-pub use Rattle.cweb_input.specs.surface.OpenedFileNames.{opened_file_names}
 pub use Rattle.cweb_lines.proofs.EmittedLinesAddUp.{yields_both}
 pub use Rattle.cweb_lines.specs.Events.{emitted_lines, Event}
 pub use Rattle.cweb_lines.specs.declared.merge_state.MergeState.{MergeState}
 pub use Rattle.cweb_lines.specs.declared.merger.Merger.{Merger}
 pub use Rattle.cweb_lines.specs.declared.merger.ahead.Ahead.{Ahead}
-pub use Rattle.cweb_lines.specs.inner.Ahead.{LooksAhead, TakesLines}
-pub use Rattle.cweb_lines.specs.inner.LineSpans.{span_bytes, BorrowsLines}
+pub use Rattle.cweb_lines.specs.inner.Ahead.{LooksAhead, TakesLines, span_bytes, BorrowsLines}
 pub use Rattle.cweb_lines.specs.inner.Passing.{lines_next, with_newlines, top_of}
 pub use Rattle.cweb_lines.specs.surface.MergeProgress.{SoFar, so_far_of, KeepsReported, Stopped, events_to_come}
 pub use Rattle.cweb_lines.specs.surface.MergerCalls.{EmitsLine, Grows, StopsThere, so_far, to_come, KnowsReaders}
@@ -51,8 +49,8 @@ pub use Rattle.cweb_rules.proofs.Seams.{begins_line, in_line, stops}
 pub use Rattle.cweb_rules.proofs.UnitNewlines.{drop-sum, Tells, ends-append}
 pub use Rattle.cweb_rules.proofs.Walks.{punctuator_fits}
 pub use Rattle.cweb_rules.specs.Bytes.{begins, starts_section, is_blank, is_line_end, is_digit, is_word_byte}
-pub use Rattle.cweb_texts.specs.Edges.{first_is}
 pub use Rattle.cweb_rules.specs.Bytes.{at_line_end, is_white, listed, longest, number_len, starts_number}
+pub use Rattle.cweb_texts.specs.Edges.{first_is}
 pub use Rattle.cweb_rules.specs.Codes.{in_tex, in_macro, in_c}
 pub use Rattle.cweb_rules.specs.Items.{reach_size, Reach, body, with_unit, reach_in, reach, unescaped, look_in_raw}
 pub use Rattle.cweb_rules.specs.Items.{look_in_literal, look_in_comment, unit_bytes, look_in_name, look_in_control}
@@ -86,81 +84,57 @@ pub use Rattle.cweb_rules.specs.declared.quote.Quote.{Quote}
 pub use Rattle.cweb_rules.specs.declared.quote.Quote.TheVariants.{Single, Double}
 pub use Rattle.cweb_rules.specs.declared.rule.Rule.{Rule}
 pub use Rattle.cweb_rules.specs.inner.LineItems.{IsLine, opens_in, opens_code, opens_effect, c_opens, tex_opens}
-pub use Rattle.cweb_rules.specs.inner.LineItems.{AtLineEnd, is_unclosed}
-pub use Rattle.cweb_rules.specs.inner.Looks.{reached, MovesOn}
-pub use Rattle.cweb_rules.specs.inner.PlainBytes.{is_plain, is_raw_special, is_special}
-pub use Rattle.cweb_rules.specs.inner.Quotes.{quote_byte}
+pub use Rattle.cweb_rules.specs.inner.LineItems.{AtLineEnd, is_unclosed, reached, MovesOn, is_plain, is_raw_special}
+pub use Rattle.cweb_rules.specs.inner.LineItems.{is_special}
+pub use Rattle.cweb_rules.specs.inner.WholeLiterals.{quote_byte}
 pub use Rattle.cweb_rules.specs.inner.Rules.{c_rule, c_match_by}
-pub use Rattle.cweb_rules.specs.laws.Follows.{JoinsAll, IsToken, is_token, is_quiet, begins_as}
-pub use Rattle.cweb_rules.specs.laws.Pays.{owed_tokens, at_line_ends, Pays}
-pub use Rattle.cweb_store.specs.Calls.{finished, with_dropped, with_open, PartsSoFar}
-pub use Rattle.cweb_store.specs.inner.OpenParts.{with_opened_part}
-pub use Rattle.cweb_store.specs.surface.Growing.{all_parts}
-pub use Rattle.cweb_store.specs.Calls.{part_with_token}
-pub use Rattle.cweb_store.specs.inner.OpenParts.{with_pushed_token, with_dropped_layout, with_closed_part}
-pub use Rattle.cweb_store.specs.Calls.{Replacement, Contents}
+pub use Rattle.cweb_rules.specs.laws.Laws.{JoinsAll, IsToken, is_token, is_quiet, begins_as, owed_tokens, at_line_ends}
+pub use Rattle.cweb_rules.specs.laws.Laws.{Pays}
+pub use Rattle.cweb_store.specs.Calls.{finished, with_dropped, with_open, PartsSoFar, part_with_token, Replacement}
+pub use Rattle.cweb_store.specs.Calls.{Contents}
+pub use Rattle.cweb_store.specs.inner.PartRanges.{with_opened_part, with_pushed_token, with_dropped_layout}
+pub use Rattle.cweb_store.specs.inner.PartRanges.{with_closed_part}
+pub use Rattle.cweb_store.specs.surface.Tokens.{all_parts, token_model}
 pub use Rattle.cweb_store.specs.Parts.{before_last, without_last, without_blank, without_layout, protected_count}
 pub use Rattle.cweb_store.specs.Parts.{is_newline, is_layout, at_close, Token, Word, Number, Literal, Verbatim, Punct}
 pub use Rattle.cweb_store.specs.Parts.{Blank, Newline, Join, Defs, Name, Head, Tail, Mark, Part, all_tokens, is_macro}
 pub use Rattle.cweb_store.specs.declared.parts.PartKind.{PartKind}
 pub use Rattle.cweb_store.specs.declared.parts.PartKind.TheVariants.{Unnamed}
-pub use Rattle.cweb_store.specs.surface.TokenModels.{token_model}
 pub use Rattle.cweb_texts.proofs.WordLemmas.{total-append}
 pub use Rattle.cweb_scan.specs.Effects.{Reading, after_lexeme, blank, stays_in_head, item, punctuator}
-pub use Rattle.cweb_scan.specs.inner.ScanParts.{enter_in}
 pub use Rattle.cweb_scan.specs.Effects.{apply_effect, pass_control_text, emit_verbatim, define, pass_comment}
 pub use Rattle.cweb_scan.specs.Effects.{report_name_fault, use_name, open_name, name_in_context, emit_literal, on}
 pub use Rattle.cweb_scan.specs.Effects.{each_line_end, occurrence, line_end, comment_line_end, literal_unit}
-pub use Rattle.cweb_scan.specs.inner.ScanParts.{line_end_in}
 pub use Rattle.cweb_scan.specs.Effects.{next_line, enter, line_end_token}
+pub use Rattle.cweb_scan.specs.inner.ScanParts.{scanned_of, full, prefix, as_occurrence, tokens_of, in_open_part}
+pub use Rattle.cweb_scan.specs.inner.ScanParts.{IsTied, after_token, stage_of, is_include_stage}
+pub use Rattle.cweb_scan.proofs.Terms.{code_token, enter_in, line_end_in, end_macro_in, unit_state, sum_over, one}
+pub use Rattle.cweb_scan.proofs.Terms.{spelling_size, occurrence_size, replacement_size, part_size, open_size}
+pub use Rattle.cweb_scan.proofs.Terms.{parts_size, token_number, stored_bytes, AddsAtMost}
 pub use Rattle.cweb_scan.specs.Lexemes.{HasReadTokens, InPlainC, significant, is_hash, is_clean, token_of}
-pub use Rattle.cweb_scan.specs.inner.ScanParts.{code_token}
 pub use Rattle.cweb_scan.specs.Lexemes.{is_insignificant, ReadsAlone, doubled, literal_token, spelling_of, read_lines}
-pub use Rattle.cweb_scan.specs.Lexemes.{lexemes_in, lex, scanned}
-pub use Rattle.cweb_scan.specs.inner.ScanParts.{scanned_of}
-pub use Rattle.cweb_scan.specs.laws.LexemePlaces.{lexemes}
-pub use Rattle.cweb_scan.specs.laws.Law.{next_match}
-pub use Rattle.cweb_scan.specs.laws.ReaderModel.{newline_prefixed}
-pub use Rattle.cweb_scan.specs.Lexemes.{Scanned}
+pub use Rattle.cweb_scan.specs.Lexemes.{lexemes_in, lex, scanned, Scanned}
+pub use Rattle.cweb_scan.specs.laws.Laws.{lexemes, next_match, newline_prefixed, IsReadAs, AreLexemes, MarkPasses}
+pub use Rattle.cweb_scan.specs.laws.Laws.{PlacesPass, source_start, newlines, LexemesKeepLines, places}
 pub use Rattle.cweb_scan.specs.DirectiveTokens.{directive_of, directive_tokens, directive_after, is_punct, ends_line}
 pub use Rattle.cweb_scan.specs.DirectiveTokens.{some_include, is_last_blank}
 pub use Rattle.cweb_scan.specs.State.{is_next_line, is_c, directive, in_directive, names_include, name_occurrence}
-pub use Rattle.cweb_scan.specs.inner.ScanParts.{full}
 pub use Rattle.cweb_scan.specs.State.{ScanState, leave, start_state, emit, drop_definition}
-pub use Rattle.cweb_scan.specs.inner.ScanParts.{prefix, as_occurrence}
 pub use Rattle.cweb_scan.specs.State.{end_macro, move_to, report, add_name, begin_section, open_part_tokens}
-pub use Rattle.cweb_scan.specs.inner.ScanParts.{tokens_of}
 pub use Rattle.cweb_scan.specs.State.{leave_in, report_at, begin_part, end_part}
-pub use Rattle.cweb_scan.specs.inner.ScanParts.{end_macro_in}
 pub use Rattle.cweb_scan.specs.declared.directive.Directive.{Directive}
 pub use Rattle.cweb_scan.specs.declared.directive.Stage.{Stage}
 pub use Rattle.cweb_scan.specs.declared.directive.Stage.TheVariants.{Outside, Bare, Further}
-pub use Rattle.cweb_scan.specs.inner.Ahead.{ReadsAhead}
-pub use Rattle.cweb_scan.specs.inner.Bound.{sum_over, one, spelling_size, occurrence_size, replacement_size, part_size}
-pub use Rattle.cweb_scan.specs.inner.Bound.{open_size, parts_size, token_number, stored_bytes, AddsAtMost}
-pub use Rattle.cweb_scan.specs.inner.DirectiveInvariant.{in_open_part, IsTied}
+pub use Rattle.cweb_scan.specs.inner.FastPaths.{ReadsAhead, TakesPlain, IsPlainC, IsPlainToken, HasTaken, is_skipped}
 pub use Rattle.cweb_scan.specs.inner.MatchSteps.{Applies, effect_in, is_head, is_name_effect, reads_c, reads_literals}
-pub use Rattle.cweb_scan.specs.inner.MatchSteps.{IsPast, ended_as, unit_state, reads_names, starts_name}
-pub use Rattle.cweb_scan.specs.inner.MatchSteps.{ends_in_line, needs_two}
-pub use Rattle.cweb_scan.specs.inner.MatchSteps.{AppliesOver, passed}
-pub use Rattle.cweb_scan.specs.inner.Plain.{TakesPlain, IsPlainC, IsPlainToken}
-pub use Rattle.cweb_scan.specs.inner.ReaderModel.{ReaderModel, OpenItem, Between, Pending, is_pending}
-pub use Rattle.cweb_scan.specs.inner.ReaderModel.{pending_text, pending_places}
-pub use Rattle.cweb_scan.specs.inner.ReaderModel.{with_line, cost, read_after, TakesPrefix, read_on, source_ended}
-pub use Rattle.cweb_scan.specs.inner.ReaderModel.{BeginsLine, TakesLineEnd, TakesBytes, new_reader, reader_at, gone_to}
-pub use Rattle.cweb_scan.specs.inner.ReaderModel.{holding}
-pub use Rattle.cweb_scan.specs.inner.ReaderSteps.{MakesProgress}
-pub use Rattle.cweb_scan.specs.inner.PendingItems.{is_between, item_of, IsItem, IsPending, IsStored}
-pub use Rattle.cweb_scan.specs.inner.PendingItems.{takes_opener, quoted_as}
-pub use Rattle.cweb_scan.specs.inner.PendingItems.{PassesUnits, CanTake}
-pub use Rattle.cweb_scan.specs.inner.Room.{weight, HasItemRoom, HasPartRoom}
-pub use Rattle.cweb_scan.specs.inner.Scan.{HasTaken}
-pub use Rattle.cweb_scan.specs.inner.Skipped.{is_skipped}
-pub use Rattle.cweb_scan.specs.inner.Stages.{after_token, stage_of, is_include_stage}
-pub use Rattle.cweb_scan.specs.laws.Alone.{IsReadAs}
-pub use Rattle.cweb_scan.specs.laws.Law.{AreLexemes, MarkPasses, PlacesPass}
-pub use Rattle.cweb_scan.specs.laws.LexemePlaces.{source_start, newlines, LexemesKeepLines}
-pub use Rattle.cweb_scan.specs.laws.ReaderModel.{places}
-pub use Rattle.cweb_scan.specs.surface.Law.{web_size, IsBounded}
-pub use Rattle.cweb_scan.specs.surface.Scan.{AreLinesBelow, IsScanBelow, IsMarkBelow, ScansWithinLimits, Scans}
-pub use Rattle.cweb_scan.specs.surface.Scan.{StopsAfter, ScanEndsEarly}
+pub use Rattle.cweb_scan.specs.inner.MatchSteps.{IsPast, ended_as, reads_names, starts_name, ends_in_line}
+pub use Rattle.cweb_scan.specs.inner.MatchSteps.{needs_two, AppliesOver, passed}
+pub use Rattle.cweb_scan.specs.inner.ReaderModel.{ReaderModel, OpenItem, Between, Pending, is_pending, pending_text}
+pub use Rattle.cweb_scan.specs.inner.ReaderModel.{pending_places, with_line, cost, read_after, TakesPrefix, read_on}
+pub use Rattle.cweb_scan.specs.inner.ReaderModel.{source_ended, BeginsLine, TakesLineEnd, TakesBytes, new_reader}
+pub use Rattle.cweb_scan.specs.inner.ReaderModel.{reader_at, gone_to, holding, MakesProgress, weight, HasItemRoom}
+pub use Rattle.cweb_scan.specs.inner.ReaderModel.{HasPartRoom}
+pub use Rattle.cweb_scan.specs.inner.PendingItems.{is_between, item_of, IsItem, IsPending, IsStored, takes_opener}
+pub use Rattle.cweb_scan.specs.inner.PendingItems.{quoted_as, PassesUnits, CanTake}
+pub use Rattle.cweb_scan.specs.surface.Scan.{web_size, IsBounded, AreLinesBelow, IsScanBelow, IsMarkBelow}
+pub use Rattle.cweb_scan.specs.surface.Scan.{ScansWithinLimits, Scans, StopsAfter, ScanEndsEarly}

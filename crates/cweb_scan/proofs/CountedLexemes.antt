@@ -3,7 +3,8 @@ use Rattle.cweb_scan.proofs.Common.{◌≡◌, ℕ, ◌+◌, Bool, true, false, 
 use Rattle.std.specs.List.{filter_map, cons_option}
 use Rattle.cweb_rules.specs.Matches.{Occurrence}
 use Rattle.cweb_names.specs.Names as names
-use Rattle.cweb_scan.specs.laws.Counted.{lexemes_of_lines, section_start, section_starts, starred_numbers, occurrence_of_kind, SectionsAreSectionStarts, OccurrencesAreLexemes}
+use Rattle.cweb_scan.specs.laws.Laws.{lexemes_of_lines, section_start, section_starts, starred_numbers}
+use Rattle.cweb_scan.specs.laws.Laws.{occurrence_of_kind, SectionsAreSectionStarts, OccurrencesAreLexemes}
 use Rattle.cweb_scan.proofs.SmallSteps.{Preserves, IsSmallKind, moved, enter-holds, item-holds}
 
 -- The sections and the occurrences stay.

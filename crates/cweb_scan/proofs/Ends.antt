@@ -5,10 +5,10 @@ use Rattle.cweb_rules.specs.Items.{look_in_include}
 use Rattle.cweb_rules.specs.declared.items.Item.{Item}
 use Rattle.cweb_rules.specs.declared.items.Item.TheVariants.{ControlText, Name, Comment, LineComment, Literal}
 use Rattle.cweb_rules.specs.declared.items.Item.TheVariants.{IncludedName, RawLiteral}
-use Rattle.cweb_rules.specs.inner.Looks.{look_of}
+use Rattle.cweb_rules.specs.inner.LineItems.{look_of}
 use Rattle.cweb_rules.proofs.Looks.{all_some, IsSome, AllSome, control-units, name-units, comment-units}
-use Rattle.cweb_rules.proofs.Lasts.{reach-fits}
 use Rattle.cweb_rules.proofs.Looks.{include-units, raw-units, literal-some}
+use Rattle.cweb_rules.proofs.Lasts.{reach-fits}
 pub use Rattle.cweb_rules.proofs.Walks.{at_start}
 
 abbrev pub at_end : End → Reach → Reach

@@ -22,10 +22,8 @@ opens_by effect t r = false
 
 rest_closed : (effect : ℕ → Effect) (t : List ℕ) (a b c : Bool) → false ≡ opens_by effect
     t (if a then rule.IncludedName else (if b then rule.Number else (if c then rule.Identifier else rule.Punctuator)))
-rest_closed effect t true b c = refl
-rest_closed effect t false true c = refl
 rest_closed effect t false false true = refl
-rest_closed effect t false false false = refl
+rest_closed effect t _ _ _ = refl
 
 pub c_opens-by : (effect : ℕ → Effect) (includes : Bool) (t : List ℕ)
     → c_opens effect t ≡ opens_by effect t (c_rule includes t)

@@ -1,6 +1,6 @@
 -- C text outside directives: lexemes that their first byte doesn't determine.
 use Rattle.cweb_scan.proofs.Common.{◌≡◌, ◌≤◌, ℕ, zero, suc, ◌+◌, Bool, false, ◌&&◌, ◌==◌, not, List, [], ◌∷◌, Option, Some, None, length, take, drop, refl, ap, sym, ◌∙◌, arith, if◌then◌else◌, codes, bytes_eq, Token, Number, Punct, Blank, begins, first_is, at_line_end, in_c, reach, reach_size, match_in, comment_match, look_in_comment, IsLine, is_unclosed, opens_in, reached, c_rule, c_match_by, listed, longest, number_len, Context, CText, End, Closed, Cut, Open, Reached, Look, Rule, Reading, blank, pass_comment, comment_line_end, punctuator, directive, is_c, names_include, Applies, ended_as, is_head, TakesPlain, ScanState, emit, and-false, some_include, is_last_blank, is_some, IsPlainC, IsPlainToken}
-use Rattle.cweb_rules.specs.inner.Firsts.{stops_plain}
+use Rattle.cweb_rules.specs.inner.Rules.{stops_plain}
 use Rattle.cweb_rules.specs.declared.items.Item.TheVariants as item
 use Rattle.std.proofs.lemmas.Bool.{or_parts}
 use Rattle.cweb_rules.specs.declared.rule.Rule.TheVariants as rule

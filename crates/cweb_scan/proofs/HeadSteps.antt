@@ -22,19 +22,11 @@ is_foreign k = true
 
 head_text : (k : Kind) (f : RuleMatch) (t : List ℕ) → is_foreign k ≡ true → head_match_of k f t ≡ tex_match in_tex t
 head_text Blanks f t h = cc
-head_text LineEnd f t h = cc
-head_text (Comment how) f t h = cc
-head_text Identifier f t h = cc
-head_text (Defined tight) f t h = cc
-head_text _ f t h = refl
+head_text _ f t h = cc
 
 foreign_leaves : (k : Kind) → is_foreign k ≡ true → stays_in_head k ≡ false
 foreign_leaves Blanks h = cc
-foreign_leaves LineEnd h = cc
-foreign_leaves (Comment how) h = cc
-foreign_leaves Identifier h = cc
-foreign_leaves (Defined tight) h = cc
-foreign_leaves _ h = refl
+foreign_leaves _ h = cc
 
 either : (is : RuleMatch → Bool) (v : Bool) (x y : RuleMatch) → is x ≡ true → is y ≡ true
     → is (if v then x else y) ≡ true

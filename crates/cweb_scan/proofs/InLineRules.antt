@@ -1,6 +1,6 @@
 -- Lexemes of macros and C text that end in their line.
 use Rattle.cweb_scan.proofs.Common.{◌≡◌, ℕ, Bool, true, false, ◌&&◌, List, refl, ap, sym, ◌∙◌, if◌then◌else◌, in_macro, in_c, match_in, opens_in, c_opens, c_rule, c_match_by, Context, Macro, CText, Effect, Rule, is_c, in_open_part}
-use Rattle.cweb_scan.specs.inner.FirstRule.{ends_macro_line}
+use Rattle.cweb_scan.specs.inner.MatchSteps.{ends_macro_line}
 use Rattle.cweb_rules.specs.declared.rule.Rule.TheVariants as rule
 use Rattle.cweb_scan.proofs.RestByLexemes.{c_is, c_opens_is, macro_is}
 use Rattle.cweb_scan.proofs.FirstMatchTaken.{opens_by, c_opens-by}

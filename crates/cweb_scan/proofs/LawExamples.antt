@@ -1,8 +1,8 @@
 -- Worked examples of the laws.
-use Rattle.cweb_scan.proofs.Common.{◌≡◌, true, false, List, [], ◌∷◌, map, Line, Blank, Join, Defs, Part, scanned, significant}
+use Rattle.cweb_scan.proofs.Common.{◌≡◌, true, false, List, [], ◌∷◌, Line, Blank, Join, Defs, scanned, significant}
 use Rattle.std.specs.List.{filter_map}
 use Rattle.std.specs.Fmt.{digits}
-use Rattle.cweb_scan.specs.laws.Counted.{lexemes_of_lines, section_starts, starred_numbers, occurrence_of_kind}
+use Rattle.cweb_scan.specs.laws.Laws.{lexemes_of_lines, section_starts, starred_numbers, occurrence_of_kind}
 use Rattle.cweb_scan.proofs.ExampleWords.{web, word, number, mark, named, name, prefix, macro, unnamed}
 
 -- Two sections, the second one starred. A name in TeX counts too.

@@ -1,7 +1,7 @@
 -- Each lexeme has the place of the line of its first byte.
 use Rattle.cweb_scan.proofs.Common.{◌≡◌, ◌≤◌, ℕ, zero, suc, ◌+◌, List, [], ◌∷◌, ◌++◌, Some, length, drop, refl, ap, sym, ◌∙◌, subst, arith, flat_map-append, All, fold, slice_get, drop-nil, length-map, length-drop, All-head, All-tail, Place, Line, HasNoNewline, Lexeme, at_line_ends, Reading, after_lexeme, next_line, move_to, places, AreLexemes, newline_prefixed, source_start, newlines, LexemesKeepLines, ScanState}
 use Rattle.cweb_rules.proofs.UnitNewlines.{none-ends, ends-append, drop-sum}
-use Rattle.cweb_scan.specs.laws.LexemePlaces.{joined_lines}
+use Rattle.cweb_scan.specs.laws.Laws.{joined_lines}
 use Rattle.cweb_scan.proofs.LexemesAreUnique.{are_pieces}
 use Rattle.cweb_scan.proofs.Scans.{is_line}
 use Rattle.cweb_scan.proofs.Walked.{bytes_in, joined, pieces-walk}

@@ -70,3 +70,4 @@ pub mod Walked
 pub mod Adding
 pub mod SmallSteps
 pub mod CountedLexemes
+pub mod Terms

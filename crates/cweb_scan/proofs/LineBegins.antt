@@ -1,5 +1,5 @@
 -- The start of a line for any reader, and the end of the source.
-use Rattle.cweb_scan.proofs.Common.{◌≡◌, ◌≤◌, ℕ, Bool, true, false, List, [], ◌∷◌, ◌++◌, refl, ap, sym, ◌∙◌, subst, arith, Place, Line, Reading, line_end, ReaderModel, OpenItem, Between, Pending, is_pending, read_on, read_lines, read_after, source_ended, BeginsLine, TakesLineEnd, TakesBytes, cost, weight, drop, newline_prefixed, places, ScanState}
+use Rattle.cweb_scan.proofs.Common.{◌≡◌, ◌≤◌, ℕ, Bool, true, false, List, ◌∷◌, ◌++◌, refl, ap, sym, ◌∙◌, subst, arith, Place, Line, line_end, ReaderModel, OpenItem, Between, Pending, is_pending, read_after, source_ended, BeginsLine, TakesLineEnd, TakesBytes, cost, weight, drop, ScanState}
 use Rattle.cweb_scan.proofs.FirstMatchTaken.{between}
 use Rattle.cweb_scan.proofs.PendingItems.{pending-weight}
 use Rattle.cweb_scan.proofs.LineEnds.{run-newline}

@@ -1,6 +1,5 @@
 -- The bytes of a line are taken step by step.
-use Rattle.cweb_scan.proofs.Common.{◌≡◌, ℕ, ◌+◌, true, List, length, drop, ap, sym, ◌∙◌, subst, arith, length-drop, IsLine, ReaderModel, is_pending, TakesPrefix, MakesProgress, IsLine-drop, drop-sum}
-use Rattle.cweb_scan.proofs.RestByLexemes.{takes_both}
+use Rattle.cweb_scan.proofs.Common.{◌≡◌, ℕ, true, List, length, drop, sym, subst, IsLine, ReaderModel, is_pending, TakesPrefix, IsLine-drop}
 
 -- The bytes before the rest of a line were taken.
 pub record TakesFirst (line rest : List ℕ) (old new : ReaderModel) : Type 0 where

@@ -5,7 +5,6 @@ use Rattle.cweb_rules.proofs.Seams.{begins_line, starts_section_line}
 pub enter_quoted : (c : Context) (us : List (List ℕ)) (how : End) (s : ScanState)
     → reads_literals c ≡ true → enter_in c (Quoted us how) s ≡ s
 enter_quoted Macro us how s h = refl
-enter_quoted CText us how s h = refl
 enter_quoted _ us how s h = cc
 
 pub c_prefix_raw : (effect : ℕ → Effect) (takes_opener includes : Bool) (t : List ℕ)

@@ -1,6 +1,5 @@
 -- Lexemes over some lines: each is one slice of the source.
-use Rattle.cweb_scan.proofs.Common.{◌≡◌, ◌≤◌, ◌<◌, ℕ, suc, ◌+◌, ◌*◌, Bool, true, false, List, [], ◌∷◌, ◌++◌, length, take, drop, refl, ap, sym, ◌∙◌, subst, arith, if◌then◌else◌, length-append, append_assoc, append-nil, take-append-add, drop-append-add, drop_all, Place, begins, is_line_end, at_line_ends, reach, reach_size, RuleMatch, Cut, IsLine, IsLine-take, opens_in, Reading, each_line_end, next_line, enter_in, item, after_lexeme, lex, next_match, ScanState, weight, AppliesOver, passed, ReaderModel, MakesProgress, BeginsLine, Between, Pending, holding, with_line, IsPending, IsStored, item_of, is_pending, is_between, drop-append-le, length-drop, get_or, ends-append, Look, and_parts, and_from, ◌==◌, HasItemRoom, move_to, reads_literals}
-use Rattle.cweb_scan.specs.inner.Room.{CanEmit}
+use Rattle.cweb_scan.proofs.Common.{◌≡◌, ◌≤◌, ◌<◌, ℕ, suc, ◌+◌, ◌*◌, Bool, true, false, List, [], ◌∷◌, ◌++◌, length, take, drop, refl, ap, sym, ◌∙◌, subst, arith, if◌then◌else◌, length-append, append_assoc, append-nil, take-append-add, drop-append-add, drop_all, Place, begins, is_line_end, at_line_ends, reach, reach_size, RuleMatch, Cut, IsLine, IsLine-take, opens_in, Reading, each_line_end, next_line, enter_in, item, after_lexeme, lex, next_match, ScanState, weight, AppliesOver, passed, ReaderModel, MakesProgress, BeginsLine, Between, Pending, holding, with_line, IsPending, IsStored, item_of, is_pending, is_between, drop-append-le, length-drop, get_or, ends-append, Look, and_parts, and_from, ◌==◌, HasItemRoom, move_to}
 use Rattle.cweb_scan.specs.declared.reader.open.Open as code
 use Rattle.cweb_scan.specs.declared.reader.open.Open.TheVariants as kinds
 use Rattle.std.proofs.Common.{drop-cons}

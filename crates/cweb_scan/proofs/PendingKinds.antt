@@ -2,7 +2,7 @@
 use Rattle.cweb_scan.proofs.Common.{◌≡◌, ◌≤◌, ℕ, ◌+◌, Bool, true, false, ◌||◌, List, [], ◌∷◌, ◌++◌, length, take, refl, ap, sym, ◌∙◌, subst, arith, codes, length-append, Place, begins, at_line_ends, look_in_comment, look_in_name, look_in_literal, look_in_raw, opens_in, IsLine, AtLineEnd, Context, literal_prefix, enter_in, next_match, RuleMatch, ScanState, is_between, IsItem, IsPending, IsPast, starts_name, takes_opener, with_line, AppliesOver, lex, ◌-◌, comment_match, name_match, literal_match, raw_match, HasItemRoom, CanTake, ReaderModel, Pending, cost, too_many, ◌<◌}
 use Rattle.cweb_scan.proofs.OpeningSteps.{opened}
 use Rattle.cweb_rules.specs.inner.LineItems.{goes_on, opens_comment, opens_name, opens_literal, opens_raw}
-use Rattle.cweb_rules.specs.inner.RawOpeners.{raw_closer_of}
+use Rattle.cweb_rules.specs.inner.LineItems.{raw_closer_of}
 use Rattle.cweb_rules.proofs.LineDelimiters.{starts_raw_line}
 use Rattle.cweb_rules.proofs.LineLiterals.{is_quoted-size, starts_literal_line}
 use Rattle.cweb_rules.proofs.Sizes.{begins-size}

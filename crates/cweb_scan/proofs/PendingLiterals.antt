@@ -1,7 +1,6 @@
 -- Literals that are open at the end of their line.
 use Rattle.cweb_scan.proofs.Common.{ℕ, ◌≡◌, ◌≤◌, ◌+◌, Bool, true, false, ◌&&◌, List, [], ◌∷◌, ◌++◌, length, drop, refl, ap, ◌∙◌, arith, codes, length-drop, drop-append-le, begins, look_in_literal, look_in_raw, reach, reach_size, raw_match, literal_match, literal_prefix, quote_of, raw_prefix, delimiter, starts_raw, starts_literal, RuleMatch, Quoted, End, Cut, Open, AtLineEnd, IsLocal, is_unclosed, opens_in, c_opens, Context, Macro, CText, enter_in, names_include, ScanState, reads_literals, IsPast, with_line, at_line_end, in_macro, in_c, and_parts, Effect, c_match, rule_match, if◌then◌else◌}
-use Rattle.cweb_rules.specs.inner.LineItems.{opens_raw, opens_literal, goes_on}
-use Rattle.cweb_rules.specs.inner.RawOpeners.{raw_opener_len, raw_closer_of}
+use Rattle.cweb_rules.specs.inner.LineItems.{opens_raw, opens_literal, goes_on, raw_opener_len, raw_closer_of}
 use Rattle.cweb_rules.proofs.LineDelimiters.{raw_prefix-line, delimiter-line, sign-fits, has_delimiter-size, closing_sign-in_line}
 use Rattle.cweb_rules.proofs.LineLiterals.{literal_prefix-line, is_quoted-size}
 use Rattle.cweb_rules.proofs.Looks.{raw-local, raw-units}

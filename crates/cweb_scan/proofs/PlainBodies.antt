@@ -2,7 +2,7 @@
 use Rattle.cweb_scan.proofs.Common.{◌≡◌, ℕ, ◌&&◌, List, [], ◌∷◌, ◌++◌, take, refl, ap, sym, ◌∙◌, subst, arith, flat_map, fold, bytes_eq, append-nil, fold-append, if◌then◌else◌, Place, at_line_ends, reach, body, Open, reached, Reading, literal_unit, each_line_end, move_to, on, report, DoubleAtInString, ScanState, PassesUnits}
 use Rattle.cweb_rules.specs.Bytes.{is_line_end}
 use Rattle.cweb_rules.specs.declared.items.Item.{Item}
-use Rattle.cweb_rules.specs.inner.Looks.{look_of}
+use Rattle.cweb_rules.specs.inner.LineItems.{look_of}
 use Rattle.cweb_rules.proofs.UnitNewlines.{units-prefix}
 use Rattle.cweb_scan.specs.Effects.{next_line}
 use Rattle.cweb_scan.proofs.Ends.{item-some}

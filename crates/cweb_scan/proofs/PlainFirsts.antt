@@ -1,6 +1,6 @@
 -- Punctuators of one byte.
 use Rattle.cweb_scan.proofs.Common.{◌≡◌, ℕ, true, List, [], ◌∷◌, take, codes, Punct, first_is, listed, longest, IsPlainToken}
-use Rattle.cweb_rules.specs.inner.Firsts.{is_single_punctuator}
+use Rattle.cweb_rules.specs.inner.Rules.{is_single_punctuator}
 use Rattle.cweb_rules.proofs.FirstBytes.{from_set}
 
 -- A punctuator of one byte.

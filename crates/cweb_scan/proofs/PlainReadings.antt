@@ -1,5 +1,5 @@
 -- The effect of the law's lexemes on a reading.
-use Rattle.cweb_scan.proofs.Common.{◌≡◌, ℕ, Bool, true, false, cond, ◌&&◌, List, [], ◌∷◌, Some, None, refl, ap, sym, ◌∙◌, subst, fold, Token, Word, Number, Literal, Punct, Reading, after_lexeme, item, on, each_line_end, comment_line_end, blank, punctuator, emit_literal, literal_unit, next_line, line_end, enter_in, enter, Effect, EmitAt, in_directive, unescaped, Closed, Cut, Nested, Open, Kind, Lexeme, emit, InPlainC, HasReadTokens, significant, is_hash, is_clean, token_of, code_token, same_Some}
+use Rattle.cweb_scan.proofs.Common.{◌≡◌, ℕ, Bool, true, false, cond, ◌&&◌, List, [], ◌∷◌, Some, None, refl, ap, sym, ◌∙◌, subst, fold, Token, Word, Number, Literal, Punct, Reading, after_lexeme, item, on, each_line_end, comment_line_end, blank, punctuator, emit_literal, literal_unit, next_line, line_end, enter_in, enter, Effect, EmitAt, in_directive, unescaped, Closed, Kind, Lexeme, emit, InPlainC, HasReadTokens, significant, is_hash, is_clean, token_of, code_token, same_Some}
 use Rattle.cweb_rules.specs.Matches as kind
 use Rattle.cweb_scan.proofs.PlainStates.{blank_yields, and_then, emitted, placed, line_ends, comment_line_ends, next_gives, each_yields, units_give}
 
@@ -33,9 +33,6 @@ item_yields : (r : Reading) (k : Kind) (bytes : List ℕ) (t : Token) → InPlai
     → is_hash t ≡ false → token_of k bytes ≡ Some t → Yields r (item k bytes) t
 item_yields r (kind.Quoted units Closed) bytes t h plain e = literal_yields r units (is_clean units) t h plain
     (λ c. c) e
-item_yields r (kind.Quoted units Cut) bytes t h plain e = cc
-item_yields r (kind.Quoted units Nested) bytes t h plain e = cc
-item_yields r (kind.Quoted units Open) bytes t h plain e = cc
 item_yields r kind.Identifier bytes t h plain e =
     let u = Word bytes in
     subst (λ v. HasReadTokens r.state (emit u r.state) (significant (v ∷ []))) (same_Some u t e)
@@ -51,17 +48,7 @@ item_yields r kind.Punctuator bytes t h plain e =
     (placed r.state (emit u r.state) (significant (u ∷ [])) r.state.here
     (in_directive r.state && r.state.folded) (emitted r.state u h (ap is_hash same ∙ plain)))
 item_yields r (kind.Code e) bytes t h plain is = code_yields r e t h plain is
-item_yields r kind.Skipped bytes t h plain e = cc
-item_yields r (kind.Section starred) bytes t h plain e = cc
-item_yields r (kind.Letter byte text) bytes t h plain e = cc
-item_yields r (kind.ControlText how) bytes t h plain e = cc
-item_yields r (kind.Verbatim units how) bytes t h plain e = cc
-item_yields r (kind.Constant value) bytes t h plain e = cc
-item_yields r (kind.Occurrence is_file units how opens) bytes t h plain e = cc
-item_yields r kind.Blanks bytes t h plain e = cc
-item_yields r kind.LineEnd bytes t h plain e = cc
-item_yields r (kind.Comment how) bytes t h plain e = cc
-item_yields r (kind.Defined tight) bytes t h plain e = cc
+item_yields r _ bytes t h plain e = cc
 
 -- A lexeme that is a token emits it, without a fault.
 pub token_yields : (r : Reading) (p : Lexeme) (t : Token) → InPlainC r.state → is_hash t ≡ false

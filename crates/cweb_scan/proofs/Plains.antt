@@ -1,8 +1,9 @@
 -- C text outside directives: correctness of taking a lexeme that its first byte determines.
 use Rattle.cweb_scan.proofs.Common.{◌≡◌, ◌≤◌, ℕ, true, false, ◌&&◌, not, List, [], ◌∷◌, Option, Some, None, length, take, refl, ap, sym, ◌∙◌, subst, if◌then◌else◌, codes, option_map, prefix_len, part_with_token, Token, Word, Punct, Blank, Newline, Part, is_blank, is_word_byte, in_c, IsLine, c_rule, c_match_by, Context, CText, Rule, punctuator, directive, is_c, names_include, Applies, is_head, in_open_part, TakesPlain, ScanState, emit, tokens_of, directive_of, directive_tokens, ends_line, is_punct, directive_after, is_some, IsTied, IsPlainC, IsPlainToken, Directive, Stage, Outside, Bare}
 use Rattle.std.proofs.lemmas.List.Sums.{fold-append}
-use Rattle.cweb_scan.specs.inner.Stages.{next_open_stage, continues_line, is_after_line_end, is_outside, last_kind, next_stage, new_directive, after_token}
-use Rattle.cweb_scan.specs.inner.FirstRule.{ends_macro_line}
+use Rattle.cweb_scan.specs.inner.ScanParts.{next_open_stage, continues_line, is_after_line_end, is_outside, last_kind}
+use Rattle.cweb_scan.specs.inner.ScanParts.{next_stage, new_directive, after_token}
+use Rattle.cweb_scan.specs.inner.MatchSteps.{ends_macro_line}
 use Rattle.std.proofs.lemmas.Bool.{not-false}
 use Rattle.cweb_rules.specs.declared.rule.Rule.TheVariants as rule
 use Rattle.cweb_scan.specs.DirectiveTokens as spec

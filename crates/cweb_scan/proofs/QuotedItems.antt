@@ -1,9 +1,7 @@
 -- Literals, raw or not, and included names, as one slice of the source.
-use Rattle.cweb_scan.proofs.Common.{ℕ, ◌≡◌, ◌≤◌, ◌<◌, ◌+◌, true, false, ◌==◌, List, [], ◌∷◌, ◌++◌, length, take, drop, refl, ap, sym, ◌∙◌, subst, arith, codes, flat_map, fold, bytes_eq, append_assoc, append-nil, length-append, take-append-drop, flat_map-append, fold-append, Place, Look, Goes, Ends, at_line_ends, Reach, reach, body, reach_size, unescaped, unit_bytes, Cut, Open, Reached, reached, Reading, literal_unit, emit_literal, on, ScanState, AppliesOver, ended_as, PassesUnits, quoted_as, ends-append, and_parts, if◌then◌else◌, eqb-true, length-take-le, DoubleAtInString, report, each_line_end, move_to, passed, in_open_part, Contents, too_many}
-use Rattle.cweb_scan.specs.inner.Room.{CanEmit}
-use Rattle.cweb_store.specs.surface.Growing.{token_count, part_count}
+use Rattle.cweb_scan.proofs.Common.{ℕ, ◌≡◌, ◌≤◌, ◌+◌, true, false, ◌==◌, List, [], ◌∷◌, ◌++◌, length, take, drop, refl, ap, sym, ◌∙◌, subst, arith, codes, flat_map, fold, bytes_eq, append_assoc, append-nil, length-append, take-append-drop, flat_map-append, fold-append, Place, Look, Goes, Ends, at_line_ends, Reach, reach, body, reach_size, unescaped, unit_bytes, Cut, Open, Reached, reached, Reading, literal_unit, emit_literal, on, ScanState, AppliesOver, ended_as, PassesUnits, quoted_as, ends-append, and_parts, if◌then◌else◌, eqb-true, length-take-le, DoubleAtInString, report, each_line_end, move_to, passed}
 use Rattle.cweb_rules.specs.declared.items.Item.{Item}
-use Rattle.cweb_rules.specs.inner.Looks.{look_of}
+use Rattle.cweb_rules.specs.inner.LineItems.{look_of}
 use Rattle.cweb_rules.proofs.UnitNewlines.{quoted-bytes}
 use Rattle.cweb_scan.proofs.Ends.{item-some, reach-at_end, size-at_end, how-at_end, at_end, at_start}
 use Rattle.cweb_scan.proofs.PendingItems.{each-passed}

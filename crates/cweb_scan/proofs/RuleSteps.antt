@@ -1,5 +1,5 @@
 -- One step in a macro or C text, by the first rule that applies.
-use Rattle.cweb_scan.proofs.Common.{◌≡◌, ◌≤◌, ℕ, Bool, true, false, ◌&&◌, List, [], ◌∷◌, length, drop, take, refl, ap, sym, ◌∙◌, if◌then◌else◌, codes, ne_eqb, begins, first_is, is_line_end, at_line_end, in_macro, match_in, c_match, Skipped, rule_match, IsLine, opens_in, c_opens, c_rule, Context, Macro, CText, Rule, Reading, names_include, ends_in_line, is_head, needs_two, ReaderModel, MakesProgress, in_open_part, Between, move_to}
+use Rattle.cweb_scan.proofs.Common.{◌≡◌, ◌≤◌, ℕ, Bool, true, false, ◌&&◌, List, [], ◌∷◌, length, drop, take, refl, ap, sym, ◌∙◌, if◌then◌else◌, codes, ne_eqb, begins, first_is, is_line_end, at_line_end, in_macro, match_in, c_match, Skipped, rule_match, IsLine, opens_in, c_opens, c_rule, Context, Macro, Rule, Reading, names_include, ends_in_line, is_head, needs_two, ReaderModel, MakesProgress, in_open_part, Between, move_to}
 use Rattle.cweb_rules.specs.declared.rule.Rule.TheVariants as rule
 use Rattle.cweb_rules.proofs.Sizes.{begins-size}
 use Rattle.cweb_scan.proofs.InLineItemSteps.{closed_at}
@@ -10,17 +10,11 @@ use Rattle.cweb_scan.proofs.InLineRules.{closes}
 -- In a part no head is open.
 pub part_head : (c : Context) → in_open_part c ≡ true → is_head c ≡ false
 part_head Macro h = refl
-part_head CText h = refl
 part_head _ h = cc
 
 pub ends_closes : (r : Rule) → ends_in_line r ≡ true → closes r ≡ true
 ends_closes rule.LineEnd h = cc
-ends_closes rule.Comment h = cc
-ends_closes rule.Section h = cc
-ends_closes rule.Code h = cc
-ends_closes rule.RawLiteral h = cc
-ends_closes rule.Literal h = cc
-ends_closes _ h = refl
+ends_closes _ h = cc
 
 abbrev pub is_ended : Rule → Bool
 is_ended rule.LineEnd = true

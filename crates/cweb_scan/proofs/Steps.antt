@@ -1,13 +1,14 @@
 -- The code's directive state follows the directive of the tokens.
-use Rattle.cweb_scan.proofs.Common.{◌≡◌, Bool, true, false, ◌&&◌, not, List, [], ◌∷◌, ◌++◌, Option, Some, None, refl, ap, sym, ◌∙◌, codes, bytes_eq, if◌then◌else◌, Token, Word, Number, Literal, Verbatim, Punct, Blank, Newline, Join, Defs, Name, Head, Tail, Mark, Stage, is_some}
+use Rattle.cweb_scan.proofs.Common.{◌≡◌, Bool, true, false, ◌&&◌, not, List, [], ◌∷◌, ◌++◌, Option, Some, None, refl, ap, sym, ◌∙◌, codes, bytes_eq, if◌then◌else◌, Token, Word, Punct, Blank, Newline, Stage, is_some}
 use Rattle.std.proofs.lemmas.List.Sums.{fold-append}
 use Rattle.cweb_scan.specs.declared.directive.Stage.TheVariants.{Outside, Bare, Include, Further}
 use Rattle.cweb_scan.specs.DirectiveTokens.{is_bare_include, is_punct, ends_line, directive_tokens, directive_after, directive_of, some_include, is_line_continued}
-use Rattle.cweb_scan.specs.inner.ScanParts.{is_bare}
-use Rattle.cweb_scan.specs.inner.Stages.{last_kind, maybe_last_kind, stage_of, directive_model, is_after_line_end, is_after_backslash, is_outside, is_bare_stage, is_include_stage, next_open_stage, next_stage, after_token}
+use Rattle.cweb_scan.specs.inner.ScanParts.{is_bare, last_kind, maybe_last_kind, stage_of, directive_model}
+use Rattle.cweb_scan.specs.inner.ScanParts.{is_after_line_end, is_after_backslash, is_outside, is_bare_stage}
+use Rattle.cweb_scan.specs.inner.ScanParts.{is_include_stage, next_open_stage, next_stage, after_token}
 use Rattle.cweb_scan.specs.declared.directive.Last.TheVariants as last
 use Rattle.cweb_scan.specs.DirectiveTokens as spec
-use Rattle.cweb_scan.specs.inner.Stages as kept
+use Rattle.cweb_scan.specs.inner.ScanParts as kept
 
 other_last : (v : Bool) → is_after_line_end (if v then last.Backslash else last.Other) ≡ false
 other_last true = refl
@@ -38,14 +39,12 @@ stage_when true = refl
 stage_when false = refl
 
 not_outside : (a b : Bool) → is_outside (if a then Bare else (if b then Include else Further)) ≡ false
-not_outside true b = refl
 not_outside false true = refl
-not_outside false false = refl
+not_outside _ _ = refl
 
 bare_is : (a b : Bool) → is_bare_stage (if a then Bare else (if b then Include else Further)) ≡ a
-bare_is true b = refl
 bare_is false true = refl
-bare_is false false = refl
+bare_is _ _ = refl
 
 stage_of_some : (ts : List Token) (t : Token) → stage_of (Some (t ∷ ts)) ≡ next_open_stage (stage_of (Some ts)) t
 stage_of_some ts (Word b) = ap
@@ -83,7 +82,6 @@ bare_includes : (ts : List Token) → is_bare ts ≡ true → is_bare_include ts
 bare_includes [] h = refl
 bare_includes (Blank ∷ ts) h = bare_includes ts h
 bare_includes (Word b ∷ ts) h = cc
-bare_includes (Number b ∷ ts) h = refl
 bare_includes (_ ∷ ts) h = refl
 
 include_when : (a b : Bool) → (a ≡ true → b ≡ false)

@@ -1,6 +1,6 @@
 -- The invariant of the directive's state, and trailing layout.
 use Rattle.cweb_scan.proofs.Common.{◌≡◌, true, false, List, [], ◌∷◌, ◌++◌, Option, Some, None, refl, ap, sym, ◌∙◌, take, drop, option_map, if◌then◌else◌, Token, Part, part_with_token, Context, in_open_part, is_macro, is_layout, before_last, without_last, without_layout, Directive, IsTied}
-use Rattle.cweb_scan.specs.inner.Stages.{after_token, after_tokens}
+use Rattle.cweb_scan.specs.inner.ScanParts.{after_token, after_tokens}
 use Rattle.cweb_scan.proofs.Steps.{directive-pushed}
 
 -- One more token of layout.

@@ -1,6 +1,6 @@
 -- How much each step adds to the weight: tokens, parts, occurrences and sections.
 use Rattle.cweb_scan.proofs.Common.{◌≤◌, ℕ, ◌+◌, ◌*◌, List, [], ◌∷◌, ◌++◌, Some, None, length, ap, arith, length-append, option_map, option_to_list, Place, PartKind, Token, Part, all_tokens, PartsSoFar, with_opened_part, with_pushed_token, part_with_token, Lexeme, Pays, Reading, next_line, ScanState, move_to, line_end, comment_line_end, after_lexeme, weight, append-nil, Tells, Context, Macro, CText, Newline, line_end_in, line_end_token, in_directive, true, false, if◌then◌else◌}
-use Rattle.cweb_store.specs.surface.Growing.{token_count, part_count}
+use Rattle.cweb_store.specs.surface.Tokens.{token_count, part_count}
 use Rattle.cweb_store.proofs.CallerLemmas.{part_count_pushed, part_count_dropped, part_count_closed, token_count_closed, token_count_dropped, tokens-last}
 use Rattle.cweb_scan.proofs.Moves as step
 use Rattle.cweb_scan.proofs.Moves.{Moves, Any, holds_any}

@@ -3,8 +3,7 @@ use Rattle.std.specs.Prelude.{◌≡◌, ℕ, Bool, false, ◌==◌, ◌||◌, n
 use Rattle.std.specs.Prelude.{Option, Some, None, bytes_eq, filter, ◌-◌, take, map, zero, suc}
 use Rattle.std.specs.List.{flat_map, list_all, fold}
 use Rattle.cweb_store.specs.Parts.{Part, Token, Word, Number, Literal, Punct, is_layout, is_comment}
-use Rattle.cweb_rules.specs.Matches.{match_in, Kind, Quoted, Identifier, Numeral, Punctuator, Code, rule_match}
-use Rattle.cweb_rules.specs.Matches.{Lexeme}
+use Rattle.cweb_rules.specs.Matches.{match_in, Kind, Quoted, Identifier, Numeral, Punctuator, Code, rule_match, Lexeme}
 use Rattle.cweb_rules.specs.Items.{unescaped}
 use Rattle.cweb_rules.specs.declared.context.Context.TheVariants.{CText}
 use Rattle.cweb_rules.specs.declared.effect.Effect.TheVariants.{EmitAt}

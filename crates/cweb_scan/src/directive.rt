@@ -1,10 +1,10 @@
 // Tracks the open directive of a part.
 ghost use Rattle.std.specs.Prelude.{◌≡◌, Some, codes};
-ghost use Rattle.cweb_store.specs.surface.TokenModels.{token_model};
+ghost use Rattle.cweb_store.specs.surface.Tokens.{token_model};
 ghost use Rattle.cweb_scan.specs.DirectiveTokens.{is_punct};
-ghost use Rattle.cweb_scan.specs.inner.Stages.{after_token, new_directive};
-ghost use Rattle.cweb_scan.specs.inner.Stages.{is_include_stage, is_include_word, is_blank_token};
-ghost use Rattle.cweb_scan.specs.inner.Stages as spec;
+ghost use Rattle.cweb_scan.specs.inner.ScanParts.{after_token, new_directive, is_include_stage};
+ghost use Rattle.cweb_scan.specs.inner.ScanParts.{is_include_word, is_blank_token};
+ghost use Rattle.cweb_scan.specs.inner.ScanParts as spec;
 
 use cweb_store::Token;
 

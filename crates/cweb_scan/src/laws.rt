@@ -3,23 +3,21 @@
 ghost use Rattle.std.specs.List.{list_all};
 ghost use Rattle.std.specs.Prelude.{◌≡◌, ◌∷◌, ◌++◌, [], All, Bool, List, ℕ, codes, true, false};
 ghost use Rattle.cweb_files.specs.declared.place.Place.{Place};
-ghost use Rattle.cweb_input.specs.surface.Lines.{HasNoNewline};
+ghost use Rattle.cweb_input.specs.surface.OpenedFileNames.{HasNoNewline};
 ghost use Rattle.cweb_input.specs.Lines.{Line};
 ghost use Rattle.cweb_rules.specs.Bytes.{is_blank};
 ghost use Rattle.cweb_texts.specs.Edges.{first_is};
-ghost use Rattle.cweb_rules.specs.laws.Follows.{JoinsAll, is_quiet};
+ghost use Rattle.cweb_rules.specs.laws.Laws.{JoinsAll, is_quiet};
 ghost use Rattle.cweb_rules.specs.Matches.{Lexeme};
 ghost use Rattle.cweb_rules.specs.declared.context.Context.TheVariants.{CText};
 ghost use Rattle.cweb_scan.specs.Effects.{Reading};
 ghost use Rattle.cweb_scan.specs.Lexemes.{InPlainC, ReadsAlone, spelling_of, doubled, is_hash};
 ghost use Rattle.cweb_scan.specs.Lexemes.{significant, lex, scanned};
-ghost use Rattle.cweb_scan.specs.laws.LexemePlaces.{lexemes};
-ghost use Rattle.cweb_scan.specs.laws.Alone.{IsReadAs, continues_token};
+ghost use Rattle.cweb_scan.specs.laws.Laws.{lexemes, IsReadAs, continues_token};
+ghost use Rattle.cweb_scan.specs.laws.Laws.{OccurrencesAreLexemes, SectionsAreSectionStarts};
+ghost use Rattle.cweb_scan.specs.laws.Laws.{AreLexemes, PlacesPass, LexemesKeepLines};
 ghost use Rattle.cweb_scan.specs.State.{in_directive};
-ghost use Rattle.cweb_scan.specs.laws.Counted.{OccurrencesAreLexemes, SectionsAreSectionStarts};
-ghost use Rattle.cweb_scan.specs.laws.Law.{AreLexemes, PlacesPass};
-ghost use Rattle.cweb_scan.specs.surface.Law.{IsBounded, web_size};
-ghost use Rattle.cweb_scan.specs.laws.LexemePlaces.{LexemesKeepLines};
+ghost use Rattle.cweb_scan.specs.surface.Scan.{IsBounded, web_size};
 ghost use Rattle.cweb_store.specs.Parts.{Token};
 
 /// The lexemes of a source are the only list that the rules allow.

@@ -1,7 +1,7 @@
 // The scanner's state, and the steps that many rules share.
 ghost use Rattle.std.specs.Prelude.{◌≡◌, ◌<◌, ◌+◌, OnOk, OnErr, true, if◌then◌else◌};
 ghost use Rattle.cweb_store.specs.Parts as layout;
-ghost use Rattle.cweb_store.specs.surface.TokenModels.{token_model};
+ghost use Rattle.cweb_store.specs.surface.Tokens.{token_model};
 
 pub mod codes;
 pub mod effects;
@@ -23,6 +23,7 @@ use std::alloc::{AllocError, Global};
 use std::marker::Model;
 
 /// The result of the source so far, and the directive's state. `solid` is that state without the trailing layout.
+#[derive(Drop)]
 pub struct Scanner {
     pub(crate) alloc: Global,
     pub(crate) context: Context,
@@ -36,27 +37,9 @@ pub struct Scanner {
     pub(crate) solid: Directive,
 }
 
-// One call frees it, not one per field.
-impl Drop for Scanner {
-    fn drop(self) {
-        let Scanner {
-            alloc: _,
-            context: _,
-            builder: _,
-            faults: _,
-            sections: _,
-            starred: _,
-            here: _,
-            folded: _,
-            directive: _,
-            solid: _,
-        } = self;
-    }
-}
-
 impl Model for Scanner {
     ghost use Rattle.std.specs.Prelude.{◌≡◌};
-    ghost use Rattle.cweb_scan.specs.inner.DirectiveInvariant.{IsTied};
+    ghost use Rattle.cweb_scan.specs.inner.ScanParts.{IsTied};
     ghost use Rattle.cweb_scan.specs.State.{ScanState};
 
     ghost Value = { ScanState };
@@ -90,11 +73,11 @@ fn solid_after(solid: Directive, next: Directive, token: Token<'_>) -> Directive
 
 impl Scanner {
     ghost use Rattle.cweb_names.specs.surface.Names.{too_many};
-    ghost use Rattle.cweb_store.specs.surface.Growing.{token_count};
+    ghost use Rattle.cweb_store.specs.surface.Tokens.{token_count};
     ghost use Rattle.cweb_scan.specs.Effects as after;
     ghost use Rattle.cweb_scan.specs.State.{in_directive, is_c, names_include};
-    ghost use Rattle.cweb_scan.specs.inner.DirectiveInvariant.{in_open_part};
     ghost use Rattle.cweb_scan.specs.State.{start_state, report_at, move_to};
+    ghost use Rattle.cweb_scan.specs.inner.ScanParts.{in_open_part};
     ghost use Rattle.cweb_scan.specs.State as spec;
 
     /// The state at the start of a source.

@@ -2,20 +2,18 @@
 ghost use Rattle.std.specs.Prelude.{◌≡◌, ℕ, List, [], ◌<◌, ◌+◌, ◌*◌, ◌^◌, ◌≤◌};
 ghost use Rattle.std.specs.Prelude.{length, Err, IfErr, IfOk, IfSome, OnOk, None, Some};
 ghost use Rattle.cweb_files.specs.Shelves.{Observed, ShelfContents, ShelfModel};
-ghost use Rattle.cweb_lines.specs.inner.Ahead.{IsAhead, LooksAhead};
-ghost use Rattle.cweb_lines.specs.inner.LineSpans.{BorrowsLines};
+ghost use Rattle.cweb_lines.specs.inner.Ahead.{IsAhead, LooksAhead, BorrowsLines};
 ghost use Rattle.cweb_lines.specs.Events.{Event};
 ghost use Rattle.cweb_lines.specs.surface.MergeProgress.{SoFar};
-ghost use Rattle.cweb_input.specs.surface.OpenSources.{files_named};
-ghost use Rattle.cweb_input.specs.surface.ReaderNames.{BlamesFile, ReadsShelf, name_of_file};
+ghost use Rattle.cweb_input.specs.surface.OpenSources.{files_named, BlamesFile, ReadsShelf};
+ghost use Rattle.cweb_input.specs.surface.OpenSources.{name_of_file};
 ghost use Rattle.cweb_lines.specs.surface.MergerCalls.{to_come, so_far, stop_in, HasEnded, Grows};
 ghost use Rattle.cweb_lines.specs.surface.MergerCalls.{KnowsReaders};
 ghost use Rattle.cweb_names.specs.surface.Names.{too_many};
-ghost use Rattle.cweb_scan.specs.inner.Ahead.{ReadsAhead};
+ghost use Rattle.cweb_scan.specs.inner.FastPaths.{ReadsAhead, scanned_after, HasTaken};
 ghost use Rattle.cweb_scan.specs.inner.ReaderModel.{cost, new_reader};
-ghost use Rattle.cweb_scan.specs.surface.ScannedModel.{scanned_model};
-ghost use Rattle.cweb_scan.specs.inner.Scan.{scanned_after, HasTaken};
-ghost use Rattle.cweb_scan.specs.surface.Scan.{LeavesStop, ScanEndsEarly, ScansWithinLimits, Scans};
+ghost use Rattle.cweb_scan.specs.surface.Scan.{scanned_model, LeavesStop, ScanEndsEarly};
+ghost use Rattle.cweb_scan.specs.surface.Scan.{ScansWithinLimits, Scans};
 
 use crate::reader::Reader;
 use crate::scanner::scanned::Scanned;
@@ -100,11 +98,7 @@ fn take_lines<S: Shelf>(
     ensures named { IfErr result (λ stop. files_named stop ≤ length (so_far merger.new).names) }
 {
     'lines: loop {
-        let next = match merger.next_line(shelf, line) {
-            Ok(next) => next,
-            Err(stop) => return Err(stop),
-        };
-        let Some(place) = next else {
+        let Some(place) = merger.next_line(shelf, line)? else {
             return Ok(());
         };
         if let Err(_) = reader.take_line(place, line) {
@@ -151,9 +145,7 @@ pub fn scan<S: Shelf>(alloc: Global, merger: &mut Merger<S>, shelf: &mut S) -> R
     }
     let mut line = Vec::new(alloc);
     let mut reader = Reader::new(alloc);
-    if let Err(stop) = take_lines(merger, shelf, &mut line, &mut reader) {
-        return Err(stop);
-    }
+    take_lines(merger, shelf, &mut line, &mut reader)?;
     match finished(reader) {
         Ok(made) => Ok(made),
         Err(_) => Err(merger.halt()),

@@ -1,8 +1,8 @@
 // Tokens are printed and read again.
 ghost use Rattle.std.specs.Prelude.{◌≡◌, true};
 ghost use Rattle.cweb_input.specs.surface.OpenedFileNames.{opened_file_names};
-ghost use Rattle.cweb_store.specs.surface.TokenModels.{token_model};
-ghost use Rattle.cweb_print.specs.surface.Printers.{MarkFileIsNamed};
+ghost use Rattle.cweb_store.specs.surface.Tokens.{token_model};
+ghost use Rattle.cweb_print.specs.surface.Printed.{MarkFileIsNamed};
 ghost use Rattle.cweb_print.specs.Printing.{Setting};
 
 use cweb_files::{MemoryShelf, MemorySink, Sink};

@@ -22,12 +22,10 @@ pub use Rattle.cweb_files.specs.declared.place.Place.{Place}
 pub use Rattle.cweb_names.proofs.NameLemmas.{prefix_at}
 pub use Rattle.cweb_names.specs.Names.{is_prefix_of_another, Occurrence, Name, Resolution, id, spellings}
 pub use Rattle.cweb_names.specs.Names.{with_full_name, with_occurrence_name, names, the_one}
-pub use Rattle.cweb_names.specs.inner.FromNumbers.{beginning_from}
-pub use Rattle.cweb_names.specs.inner.FromNumbers.{names_from}
 pub use Rattle.cweb_names.specs.Names.{resolved_among, resolutions_from, resolutions, resolved_at, with_file}
-pub use Rattle.cweb_names.specs.inner.FromNumbers.{with_some}
 pub use Rattle.cweb_names.specs.Names.{files, is_id, beginning, with_id}
-pub use Rattle.cweb_names.specs.inner.FromNumbers.{files_from}
+pub use Rattle.cweb_names.specs.inner.Known.{files_from, occurrence_form, occurrences_at}
+pub use Rattle.cweb_names.proofs.Terms.{beginning_from, with_some, names_from}
 pub use Rattle.cweb_names.specs.declared.name.How.{How}
 pub use Rattle.cweb_names.specs.declared.name.How.TheVariants.{Full, Prefix}
 pub use Rattle.cweb_names.specs.declared.name.NameFault.{NameFault}
@@ -36,19 +34,21 @@ pub use Rattle.cweb_names.specs.declared.name.NameKind.{NameKind}
 pub use Rattle.cweb_names.specs.declared.name.NameKind.TheVariants.{NeverFull, PrefixOfAnother, NotPresent, Ambiguous}
 pub use Rattle.cweb_names.specs.declared.name.NameRef.{NameRef}
 pub use Rattle.cweb_names.specs.declared.table.OccurrenceForm.{OccurrenceForm}
-pub use Rattle.cweb_names.specs.inner.OccurrenceTables.{occurrence_form, occurrences_at}
-pub use Rattle.cweb_names.specs.laws.Found.{Distinct}
+pub use Rattle.cweb_names.specs.laws.Names.{Distinct}
 pub use Rattle.cweb_names.specs.surface.Names.{occurrence_of, too_many, occurrence_text}
 pub use Rattle.cweb_texts.proofs.StringListLemmas.{get-string}
-pub use Rattle.cweb_texts.specs.inner.Edges.{is_known_edge}
-pub use Rattle.cweb_texts.specs.inner.StringLists.{string_at}
+pub use Rattle.cweb_texts.specs.inner.StringLists.{is_known_edge, string_at}
 pub use Rattle.cweb_texts.specs.surface.StringTables.{total}
-pub use Rattle.cweb_store.specs.Calls.{PartsSoFar}
-pub use Rattle.cweb_store.specs.inner.OpenParts.{with_closed_part, with_dropped_layout, with_opened_part}
-pub use Rattle.cweb_store.specs.Calls.{part_with_token, Contents, empty, Stored, finished}
-pub use Rattle.cweb_store.specs.inner.OpenParts.{with_pushed_token}
-pub use Rattle.cweb_store.specs.surface.Growing.{all_parts}
-pub use Rattle.cweb_store.specs.Calls.{stored, replacement, Replacement}
+pub use Rattle.cweb_store.specs.Calls.{PartsSoFar, part_with_token, Contents, empty, Stored, finished, stored}
+pub use Rattle.cweb_store.specs.Calls.{replacement, Replacement}
+pub use Rattle.cweb_store.specs.inner.PartRanges.{with_closed_part, with_dropped_layout, with_opened_part}
+pub use Rattle.cweb_store.specs.inner.PartRanges.{with_pushed_token, ranges_from, IsWhole, closed_in, ArePartRanges}
+pub use Rattle.cweb_store.specs.inner.PartRanges.{parts_in, has_string, is_trailing}
+pub use Rattle.cweb_store.specs.surface.Tokens.{all_parts, part_count, token_count, numbers_where}
+pub use Rattle.cweb_store.specs.surface.Tokens.{tokens_at, replacement_of, uninterned_store_bytes, interned_store_bytes}
+pub use Rattle.cweb_store.specs.surface.Tokens.{replacement_bytes, stored_strings, token_model, token_strings}
+pub use Rattle.cweb_store.specs.surface.Tokens.{interned_token_bytes, AreSpansOf, AreInOneList}
+pub use Rattle.cweb_store.specs.inner.DirectBytes.{direct_bytes}
 pub use Rattle.cweb_store.specs.Faults.{fault_of_name, unresolved_faults}
 pub use Rattle.cweb_store.specs.Faults.{faults_where, faults, is_missing, is_use, is_used, has_part, unresolved_fault}
 pub use Rattle.cweb_store.specs.Parts.{before_last, without_last, without_blank, without_layout, at_close}
@@ -62,34 +62,15 @@ pub use Rattle.cweb_store.specs.declared.parts.PartKind.TheVariants.{Unnamed, Na
 pub use Rattle.cweb_store.specs.declared.parts.PartRange.{PartRange}
 pub use Rattle.cweb_store.specs.declared.parts.links.Links.{Links}
 pub use Rattle.cweb_store.specs.declared.tokens.records.Record.{Record}
-pub use Rattle.cweb_store.specs.inner.Stored.{AreAnswers}
-pub use Rattle.cweb_store.specs.inner.Calls.{HoldsAtMost}
-pub use Rattle.cweb_store.specs.inner.DirectBytes.{direct_bytes}
-pub use Rattle.cweb_store.specs.inner.Links.{AreWithin, flag_of}
-pub use Rattle.cweb_store.specs.inner.Links.{has_head}
-pub use Rattle.cweb_store.specs.inner.Links.{followed, AreLinked}
-pub use Rattle.cweb_store.specs.inner.Next.{IsNextNumber, is_name_use}
-pub use Rattle.cweb_store.specs.inner.PartRanges.{ranges_from, IsWhole, closed_in, ArePartRanges, parts_in}
-pub use Rattle.cweb_store.specs.inner.Records.{AreRecords, InternsToken, StringIsWithin, token_of_record, tokens_of}
-pub use Rattle.cweb_store.specs.inner.Stored.{replacement_in}
-pub use Rattle.cweb_store.specs.inner.Stored.{replacements_at, stored_in, AreLast, AreStored, last_from}
-pub use Rattle.cweb_store.specs.inner.Next.{token_numbers, IsTokenIndex}
-pub use Rattle.cweb_store.specs.inner.Trailing.{has_string}
-pub use Rattle.cweb_store.specs.inner.Trailing.{is_trailing}
-pub use Rattle.cweb_store.specs.inner.Links.{is_wanted, wanted_in}
-pub use Rattle.cweb_store.specs.laws.BuilderCalls.{call_model, accepted_calls, AcceptsCall, AcceptsCalls}
-pub use Rattle.cweb_store.specs.laws.BuilderCalls.{Call, Occurs, Opens, Pushes, Drops, Closes, Transliterates, after_call}
-pub use Rattle.cweb_store.specs.laws.BuilderCalls.{contents}
-pub use Rattle.cweb_store.specs.laws.NameLaws.{defines_with_prefix, AbbreviationsStay, EarlierNamesDecide}
-pub use Rattle.cweb_store.specs.laws.NameLaws.{FullNamesResolveToThemselves, OccurrencesAreThoseOfCalls}
-pub use Rattle.cweb_store.specs.laws.NameLaws.{occurrence_of_call, NamesAreDistinct, AbbreviationsBeginTheirNames}
-pub use Rattle.cweb_store.specs.laws.NameLaws.{OneFaultForNoName}
-pub use Rattle.cweb_store.specs.laws.PartLaws.{JoiningConcatenates, IsLeft, OnlyLayoutIsDropped, left_of_macro}
-pub use Rattle.cweb_store.specs.laws.PartLaws.{token_of_call, IsLeftOfTokens, TokensAreThosePushed}
-pub use Rattle.cweb_store.specs.surface.Growing.{part_count, token_count}
-pub use Rattle.cweb_store.specs.surface.Parts.{numbers_where, tokens_at}
-pub use Rattle.cweb_store.specs.surface.StoredStrings.{replacement_of}
-pub use Rattle.cweb_store.specs.surface.StoredStrings.{uninterned_store_bytes, interned_store_bytes, replacement_bytes}
-pub use Rattle.cweb_store.specs.surface.StoredStrings.{stored_strings}
-pub use Rattle.cweb_store.specs.surface.TokenModels.{token_model}
-pub use Rattle.cweb_store.specs.surface.TokenStrings.{token_strings, interned_token_bytes, AreSpansOf, AreInOneList}
+pub use Rattle.cweb_store.specs.inner.Stored.{AreAnswers, HoldsAtMost, AreWithin, flag_of, has_head, followed}
+pub use Rattle.cweb_store.specs.inner.Stored.{AreLinked, replacement_in, replacements_at, stored_in, AreLast, AreStored}
+pub use Rattle.cweb_store.specs.inner.Stored.{last_from, is_wanted, wanted_in}
+pub use Rattle.cweb_store.specs.inner.Records.{IsNextNumber, is_name_use, AreRecords, InternsToken, StringIsWithin}
+pub use Rattle.cweb_store.specs.inner.Records.{token_of_record, tokens_of, token_numbers, IsTokenIndex}
+pub use Rattle.cweb_store.specs.laws.Laws.{call_model, accepted_calls, AcceptsCall, AcceptsCalls, Call, Occurs, Opens}
+pub use Rattle.cweb_store.specs.laws.Laws.{Pushes, Drops, Closes, Transliterates, after_call, contents}
+pub use Rattle.cweb_store.specs.laws.Laws.{defines_with_prefix, AbbreviationsStay, EarlierNamesDecide}
+pub use Rattle.cweb_store.specs.laws.Laws.{FullNamesResolveToThemselves, OccurrencesAreThoseOfCalls, occurrence_of_call}
+pub use Rattle.cweb_store.specs.laws.Laws.{NamesAreDistinct, AbbreviationsBeginTheirNames, OneFaultForNoName}
+pub use Rattle.cweb_store.specs.laws.Laws.{JoiningConcatenates, IsLeft, OnlyLayoutIsDropped, left_of_macro}
+pub use Rattle.cweb_store.specs.laws.Laws.{token_of_call, IsLeftOfTokens, TokensAreThosePushed}

@@ -1,7 +1,7 @@
 -- The bytes of tokens whose edge is stored.
-use Rattle.cweb_store.proofs.Common.{arith, ◌≡◌, ℕ, true, List, Option, Some, refl, list_any, Word, Punct, direct_bytes}
+use Rattle.cweb_store.proofs.Common.{arith, ◌≡◌, ℕ, true, List, Some, refl, list_any, Word, Punct, direct_bytes}
 use Rattle.cweb_texts.specs.declared.edges.Edge.{Edge}
-use Rattle.cweb_texts.specs.inner.Edges.{TokenBytesModel, IsStoredEdge, is_high, is_known_edge}
+use Rattle.cweb_texts.specs.inner.StringLists.{IsStoredEdge, is_high, is_known_edge}
 use Rattle.cweb_texts.specs.declared.edges.Edge.TheVariants as edge_kind
 use Rattle.cweb_texts.proofs.EdgeLemmas.{known-ascii}
 
@@ -9,9 +9,6 @@ use Rattle.cweb_texts.proofs.EdgeLemmas.{known-ascii}
 pub word-borrows : (t : List ℕ) (b : Edge) → IsStoredEdge t b → is_known_edge b ≡ true
     → Some (record { string = t; edge = edge_kind.Word }) ≡ direct_bytes (Word t)
 word-borrows t b is_known some = cc (known-ascii t b (list_any is_high t) refl is_known some)
-
-abbrev borrowed_as : List ℕ → Edge → Option TokenBytesModel
-borrowed_as t b = Some (record { string = t; edge = b })
 
 pub sign-borrows : (t : List ℕ) (b : Edge) → IsStoredEdge t b → is_known_edge b ≡ true
     → Some (record { string = t; edge = b }) ≡ direct_bytes (Punct t)

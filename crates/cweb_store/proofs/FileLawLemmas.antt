@@ -2,7 +2,7 @@
 use Rattle.cweb_store.proofs.Common.{◌≡◌, ℕ, zero, suc, ◌+◌, Bool, true, false, ◌&&◌, ◌||◌, List, [], ◌∷◌, ◌++◌, Some, None, Option, refl, sym, ◌∙◌, ap, arith, inl, inr, slice_get, list_any, list_any-append, or-false, eqb-true, eq-eqb, NameId, Occurrence, Resolution, id, resolutions, resolved_at, with_file, with_some, files_from, is_id, is_some_id}
 use Rattle.std.proofs.Common.{◌⊎◌}
 use Rattle.std.proofs.lemmas.Bool.{or_cases, or_left, false_from_ne_true}
-use Rattle.cweb_store.specs.laws.NameLaws.{IsNamedAsFile, AreDistinctIds, FilesAreNamesOfOccurrences}
+use Rattle.cweb_store.specs.laws.Laws.{IsNamedAsFile, AreDistinctIds, FilesAreNamesOfOccurrences}
 use Rattle.cweb_store.proofs.NameSetLemmas.{any-with_some}
 
 id_is : (n m : NameId) → is_id n m ≡ true → n ≡ m

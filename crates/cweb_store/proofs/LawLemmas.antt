@@ -2,7 +2,7 @@
 use Rattle.cweb_store.proofs.Common.{◌≡◌, ℕ, zero, suc, ◌+◌, Bool, true, false, List, [], ◌∷◌, ◌++◌, Some, length, take, refl, sym, ◌∙◌, ap, arith, append_assoc, append-nil, Ok, Err, bytes_eq, if◌then◌else◌, nat_eq, slice_get, option_map, fold, filter_map, list_any, starts_with, position_or_len, map-append, bytes_eq-Decides, list_any-append, How, Full, Prefix, NeverFull, PartKind, Occurrence, Name, id, spellings, with_full_name, with_occurrence_name, names_from, names, beginning_from, beginning, the_one, resolved_among, resolutions_from, Part, joined_where, Call, Occurs, Contents, after_call, empty, defines_with_prefix, AbbreviationsStay, EarlierNamesDecide, FullNamesResolveToThemselves, JoiningConcatenates, OccurrencesAreThoseOfCalls, occurrence_of_call, take-append_seam}
 use Rattle.std.proofs.lemmas.List.{take-append-le}
 use Rattle.std.proofs.lemmas.Option.{slice_get_within}
-use Rattle.cweb_store.specs.laws.NameLaws.{NamesDecideResolutions}
+use Rattle.cweb_store.specs.laws.Laws.{NamesDecideResolutions}
 use Rattle.cweb_names.proofs.LongerLemmas.{beginning-step}
 use Rattle.cweb_names.proofs.OccurrenceLemmas.{Grows, names_from-grows, with_text-has}
 

@@ -8,16 +8,9 @@ use Rattle.cweb_store.proofs.LayoutLemmas.{take-next}
 -- Dropped tokens have no string.
 dropped-none : (t : Trailing) (token : Token) → is_trailing t token ≡ true → has_string token ≡ false
 dropped-none trailing.Layout (spec.Word b) h = cc
-dropped-none trailing.Layout (spec.Number b) h = cc
-dropped-none trailing.Layout (spec.Literal b) h = cc
-dropped-none trailing.Layout (spec.Verbatim b) h = cc
-dropped-none trailing.Layout (spec.Punct b) h = cc
+dropped-none trailing.Layout _ h = cc
 dropped-none trailing.Newlines (spec.Word b) h = cc
-dropped-none trailing.Newlines (spec.Number b) h = cc
-dropped-none trailing.Newlines (spec.Literal b) h = cc
-dropped-none trailing.Newlines (spec.Verbatim b) h = cc
-dropped-none trailing.Newlines (spec.Punct b) h = cc
-dropped-none t _ h = refl
+dropped-none trailing.Newlines _ h = cc
 
 gone : (token : Token) (ts : List Token) → has_string token ≡ false
     → filter has_string (token ∷ ts) ≡ filter has_string ts
@@ -45,11 +38,7 @@ trimmed-strings n t ts =
 
 blank-none : (t : Token) → is_blank t ≡ true → has_string t ≡ false
 blank-none (spec.Word b) h = cc
-blank-none (spec.Number b) h = cc
-blank-none (spec.Literal b) h = cc
-blank-none (spec.Verbatim b) h = cc
-blank-none (spec.Punct b) h = cc
-blank-none _ h = refl
+blank-none _ h = cc
 
 pub blank-strings : (ts : List Token) (k : ℕ) (t : Token) → slice_get ts k ≡ Some t
     → is_blank t ≡ true → filter has_string (take k ts) ≡ filter has_string (take (suc k) ts)

@@ -5,8 +5,7 @@ use Rattle.std.proofs.lemmas.List.{reverse-append}
 use Rattle.cweb_store.specs.declared.parts.iter.Wanted.{Wanted}
 use Rattle.cweb_store.specs.declared.parts.iter.Wanted.TheVariants.{OfName}
 use Rattle.cweb_store.specs.declared.parts.links.Heads.{Heads}
-use Rattle.cweb_store.specs.inner.Links.{head_of, IsPut}
-use Rattle.cweb_store.specs.inner.Links.{wanted_in}
+use Rattle.cweb_store.specs.inner.Stored.{head_of, IsPut, wanted_in}
 
 put-within : (ranges n m : ℕ) (b : Bool) → n ≡ (if b then ranges + 1 else m) → m ≤ ranges → n ≤ ranges + 1
 put-within ranges n m true is le = omega arith
@@ -58,10 +57,8 @@ followed-ended (r ∷ ranges) (skip ∷ skips) (suc n) h = followed-ended ranges
 pub followed-some : (ranges : List PartRange) (skips : List ℕ) (n : ℕ) (r : PartRange) (skip : ℕ)
     → slice_get ranges n ≡ Some r → slice_get skips n ≡ Some skip
     → followed ranges skips n ≡ r.part ∷ followed (drop (suc n) ranges) (drop (suc n) skips) skip
-followed-some [] skips n r skip here there = cc
-followed-some (x ∷ ranges) [] n r skip here there = cc
-followed-some (x ∷ ranges) (k ∷ skips) zero r skip here there = cc
 followed-some (x ∷ ranges) (k ∷ skips) (suc n) r skip here there = followed-some ranges skips n r skip here there
+followed-some _ _ _ r skip here there = cc
 
 range-end : {X : Type 0} (xs : List X) (n : ℕ) → drop (suc n) xs ≡ slice_range xs (n + 1) (length xs)
 range-end xs n = grind (arith, take_all, length-drop)

@@ -1,6 +1,6 @@
 -- Laws of names, abbreviations and their faults.
 use Rattle.cweb_store.proofs.Common.{◌≡◌, ℕ, zero, suc, ◌+◌, ◌<◌, true, false, List, [], ◌∷◌, ◌++◌, Some, None, Option, length, take, drop, refl, sym, ◌∙◌, subst, arith, eq-eqb, Ok, Err, nat_eq, slice_get, option_map, option_and_then, filter, option_to_list, starts_with, eqb-true, take-append-drop, NameId, NeverFull, Occurrence, Name, Resolution, spellings, with_full_name, with_occurrence_name, names_from, names, beginning_from, beginning, the_one, resolved_among, unresolved_fault, Distinct, NamesAreDistinct, AbbreviationsBeginTheirNames, OneFaultForNoName}
-use Rattle.cweb_store.specs.laws.NameLaws.{is_at}
+use Rattle.cweb_store.specs.laws.Laws.{is_at}
 use Rattle.cweb_store.proofs.RangeLemmas.{drop-here}
 use Rattle.cweb_names.proofs.NameLemmas.{Distinct-push, strings-push}
 use Rattle.cweb_names.proofs.LongerLemmas.{beginning-step}

@@ -1,6 +1,6 @@
 -- Parts as ranges of token indices.
 use Rattle.cweb_store.proofs.Common.{◌≡◌, ℕ, ◌+◌, ◌≤◌, ◌<◌, Bool, true, List, [], ◌∷◌, map, filter, length, drop, refl, arith, length-append, All, AllByRecursion, list_any, take-append_seam, drop-append_seam, All-from_recursion, PartKind, PartRange, Token, Part, all_tokens, joined_where, numbers_where, tokens_at, ranges_from, drop-drop}
-use Rattle.cweb_store.specs.surface.Parts.{numbers_from}
+use Rattle.cweb_store.specs.surface.Tokens.{numbers_from}
 use Rattle.cweb_store.specs.declared.parts.Part as declared
 
 -- Filtering ranges gives the index ranges of the filtered parts.

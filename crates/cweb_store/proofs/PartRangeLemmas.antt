@@ -126,7 +126,3 @@ whole-tokens ts ranges tied =
       drop-length ts,
       closed-whole ranges ts 0 (length ts) tied.follow (omega arith),
     )
-
-pub stored-ranges : (ts : List Token) (ranges : List PartRange) → IsWhole ts ranges
-    → ranges ≡ ranges_from 0 (map (closed_in ts) ranges)
-stored-ranges ts ranges tied = sym (runs_from-parts ranges ts 0 (length ts) tied.follow (omega arith))

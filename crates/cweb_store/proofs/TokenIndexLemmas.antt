@@ -1,7 +1,7 @@
 -- Indices of passing tokens: after an append, of a prefix, and of a suffix.
 use Rattle.cweb_store.proofs.Common.{◌≡◌, ◌≤◌, ◌<◌, ◌+◌, ℕ, zero, suc, Bool, true, false, cond, List, [], ◌∷◌, ◌++◌, length, take, drop, get_or, refl, sym, ◌∙◌, ap, subst, arith, if◌then◌else◌, Token, token_numbers, IsTokenIndex, nat_lt}
 use Rattle.cweb_store.specs.declared.tokens.token_index.TokenIndex.{TokenIndex}
-use Rattle.cweb_store.specs.inner.Next.{AddsNumber}
+use Rattle.cweb_store.specs.inner.Records.{AddsNumber}
 use Rattle.std.proofs.Common.{ltb, lt-ltb, one-add}
 use Rattle.std.specs.List.{prefix_len}
 use Rattle.std.specs.List.Sorted.{IsNonDecreasing, IsPartitionPoint}

@@ -1,4 +1,2 @@
 -- Definitions that only laws cite.
-pub mod BuilderCalls
-pub mod NameLaws
-pub mod PartLaws
+pub mod Laws

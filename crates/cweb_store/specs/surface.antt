@@ -1,6 +1,2 @@
 -- Definitions that public calls cite and the headline does not.
-pub mod Parts
-pub mod Growing
-pub mod TokenModels
-pub mod TokenStrings
-pub mod StoredStrings
+pub mod Tokens

@@ -2,8 +2,7 @@
 
 ghost use Rattle.std.specs.Prelude.{◌≡◌, ◌<◌, ◌≤◌, ◌+◌, length, IsSome, IsNone, is_some, IfOk};
 ghost use Rattle.std.specs.Prelude.{IsTrue, OnOk, OnErr};
-ghost use Rattle.cweb_store.specs.surface.Growing.{part_count, token_count};
-ghost use Rattle.cweb_store.specs.surface.StoredStrings.{replacement_of};
+ghost use Rattle.cweb_store.specs.surface.Tokens.{part_count, token_count, replacement_of};
 ghost use Rattle.cweb_store.specs.Calls.{empty, finished, with_closed, with_dropped};
 ghost use Rattle.cweb_store.specs.Calls.{with_occurrence, with_open, with_replacement, with_token};
 ghost use Rattle.cweb_names.specs.surface.Names.{occurrence_of, too_many};
@@ -18,23 +17,12 @@ use std::alloc::{AllocError, Global};
 use std::marker::Model;
 
 /// The contents of a web so far: occurrences, parts with tokens, and transliterations. A refused call may be repeated.
+#[derive(Drop)]
 pub struct Builder {
     alloc: Global,
     names: NameTable,
     parts: PartList,
     replacements: Replacements,
-}
-
-// One call frees it, not one per field.
-impl Drop for Builder {
-    fn drop(self) {
-        let Builder {
-            alloc: _,
-            names: _,
-            parts: _,
-            replacements: _,
-        } = self;
-    }
 }
 
 impl Model for Builder {
@@ -47,7 +35,7 @@ impl Model for Builder {
 }
 
 impl Builder {
-    ghost use Rattle.cweb_store.specs.surface.TokenModels.{token_model};
+    ghost use Rattle.cweb_store.specs.surface.Tokens.{token_model};
 
     /// An empty builder.
     pub fn new(alloc: Global) -> Builder

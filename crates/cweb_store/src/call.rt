@@ -1,10 +1,9 @@
 // The calls of a builder as values.
 
 ghost use Rattle.std.specs.Prelude.{◌≡◌, ◌-◌, ◌↔◌, if◌then◌else◌, IsTrue, OnOk, OnErr};
-ghost use Rattle.cweb_store.specs.laws.BuilderCalls.{after_call};
+ghost use Rattle.cweb_store.specs.laws.Laws.{after_call, call_model, AcceptsCall};
 ghost use Rattle.cweb_names.specs.surface.Names.{too_many};
-ghost use Rattle.cweb_store.specs.laws.BuilderCalls.{call_model, AcceptsCall};
-ghost use Rattle.cweb_store.specs.inner.Calls.{HoldsAtMost};
+ghost use Rattle.cweb_store.specs.inner.Stored.{HoldsAtMost};
 
 use crate::builder::Builder;
 use crate::parts::PartKind;

@@ -9,8 +9,7 @@ ghost use Rattle.cweb_names.specs.Names as spec;
 ghost use Rattle.cweb_store.specs.Faults.{fault_of_name, faults_where, unresolved_faults};
 ghost use Rattle.cweb_store.specs.Faults as fault_specs;
 ghost use Rattle.cweb_names.specs.declared.name.NameId.{NameId};
-ghost use Rattle.cweb_store.specs.inner.Links.{has_head};
-ghost use Rattle.cweb_store.specs.inner.Links.{AreWithin, flag_of};
+ghost use Rattle.cweb_store.specs.inner.Stored.{has_head, AreWithin, flag_of};
 
 use crate::parts::closed::ClosedParts;
 use crate::parts::iter::Wanted;

@@ -1,18 +1,16 @@
 //! Laws of names and parts for any calls of a builder. Each function exists for its contract; only the first runs code.
 
 ghost use Rattle.std.specs.Prelude.{◌≡◌, ◌<◌, length, map, IfOk};
-ghost use Rattle.cweb_store.specs.laws.BuilderCalls.{contents};
+ghost use Rattle.cweb_store.specs.laws.Laws.{contents, AbbreviationsStay, EarlierNamesDecide};
+ghost use Rattle.cweb_store.specs.laws.Laws.{FullNamesResolveToThemselves};
+ghost use Rattle.cweb_store.specs.laws.Laws.{OccurrencesAreThoseOfCalls};
+ghost use Rattle.cweb_store.specs.laws.Laws.{AbbreviationsBeginTheirNames, NamesAreDistinct};
+ghost use Rattle.cweb_store.specs.laws.Laws.{OneFaultForNoName, FilesAreNamesOfOccurrences};
+ghost use Rattle.cweb_store.specs.laws.Laws.{NamesDecideResolutions, JoiningConcatenates};
+ghost use Rattle.cweb_store.specs.laws.Laws.{OnlyLayoutIsDropped, TokensAreThosePushed};
+ghost use Rattle.cweb_store.specs.laws.Laws.{accepted_calls, AcceptsCalls};
 ghost use Rattle.cweb_store.specs.Calls.{empty, finished};
 ghost use Rattle.cweb_names.specs.surface.Names.{too_many};
-ghost use Rattle.cweb_store.specs.laws.NameLaws.{AbbreviationsStay, EarlierNamesDecide};
-ghost use Rattle.cweb_store.specs.laws.NameLaws.{FullNamesResolveToThemselves};
-ghost use Rattle.cweb_store.specs.laws.NameLaws.{OccurrencesAreThoseOfCalls};
-ghost use Rattle.cweb_store.specs.laws.NameLaws.{AbbreviationsBeginTheirNames, NamesAreDistinct};
-ghost use Rattle.cweb_store.specs.laws.NameLaws.{OneFaultForNoName, FilesAreNamesOfOccurrences};
-ghost use Rattle.cweb_store.specs.laws.NameLaws.{NamesDecideResolutions};
-ghost use Rattle.cweb_store.specs.laws.PartLaws.{JoiningConcatenates, OnlyLayoutIsDropped};
-ghost use Rattle.cweb_store.specs.laws.PartLaws.{TokensAreThosePushed};
-ghost use Rattle.cweb_store.specs.laws.BuilderCalls.{accepted_calls, AcceptsCalls};
 
 use crate::builder::Builder;
 use crate::call::{Answered, Call};

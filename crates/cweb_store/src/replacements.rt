@@ -1,9 +1,8 @@
 // Transliterations of bytes in printed Words.
 
 ghost use Rattle.std.specs.Prelude.{◌≡◌, ◌++◌, ◌∷◌, [], map, IfOk, OnOk, OnErr};
-ghost use Rattle.cweb_store.specs.surface.StoredStrings.{replacement_of};
+ghost use Rattle.cweb_store.specs.surface.Tokens.{replacement_of, replacement_bytes};
 ghost use Rattle.cweb_store.specs.inner.Stored.{AreLast};
-ghost use Rattle.cweb_store.specs.surface.StoredStrings.{replacement_bytes};
 
 use cweb_texts::StringList;
 use std::alloc::{AllocError, Global};

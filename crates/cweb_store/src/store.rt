@@ -11,10 +11,9 @@ ghost use Rattle.cweb_store.specs.Parts.{all_tokens, has_defs_code};
 ghost use Rattle.cweb_store.specs.Faults.{faults};
 ghost use Rattle.cweb_store.specs.Calls.{replacement, stored};
 ghost use Rattle.cweb_names.specs.surface.Names.{too_many};
-ghost use Rattle.cweb_store.specs.surface.TokenStrings.{AreInOneList};
-ghost use Rattle.cweb_store.specs.surface.StoredStrings.{uninterned_store_bytes, interned_store_bytes};
-ghost use Rattle.cweb_store.specs.surface.StoredStrings.{stored_strings};
-ghost use Rattle.cweb_store.specs.inner.Next.{IsNextNumber, is_name_use};
+ghost use Rattle.cweb_store.specs.surface.Tokens.{AreInOneList, uninterned_store_bytes};
+ghost use Rattle.cweb_store.specs.surface.Tokens.{interned_store_bytes, stored_strings};
+ghost use Rattle.cweb_store.specs.inner.Records.{IsNextNumber, is_name_use};
 
 use crate::parts::Part;
 use crate::parts::closed::ClosedParts;
@@ -27,6 +26,7 @@ use std::alloc::{AllocError, Global};
 use std::marker::Model;
 
 /// A finished web: the resolution of each occurrence, the parts of each name, and the faults.
+#[derive(Drop)]
 pub struct Store {
     parts: ClosedParts,
     // the strings of the occurrences, then those of the replacements
@@ -35,20 +35,6 @@ pub struct Store {
     replaced: Vec<u8>,
     last_places: Vec<Option<usize>>,
     answers: Answers,
-}
-
-// One call frees it, not one per field.
-impl Drop for Store {
-    fn drop(self) {
-        let Store {
-            parts: _,
-            strings: _,
-            forms: _,
-            replaced: _,
-            last_places: _,
-            answers: _,
-        } = self;
-    }
 }
 
 impl Model for Store {
@@ -66,7 +52,7 @@ impl Model for Store {
 }
 
 impl Store {
-    ghost use Rattle.cweb_store.specs.surface.TokenModels.{token_model};
+    ghost use Rattle.cweb_store.specs.surface.Tokens.{token_model};
 
     pub(crate) fn new(
         alloc: Global,

@@ -1,5 +1,5 @@
 // Bins of a client's own.
-ghost use Rattle.std.specs.Prelude.{◌≡◌, [], string_bytes, true, IfOk};
+ghost use Rattle.std.specs.Prelude.{◌≡◌, [], string_bytes, IfOk};
 
 use cweb_lines::{Sink, SinkFault};
 use cweb_out::{BinFault, Bins};

@@ -1,5 +1,5 @@
 // A shelf of a client's own.
-ghost use Rattle.std.specs.Prelude.{◌≡◌, ◌≤◌, ◌+◌, [], drop, if◌then◌else◌, string_bytes, Some, None};
+ghost use Rattle.std.specs.Prelude.{◌+◌, [], drop, if◌then◌else◌, string_bytes, Some, None};
 ghost use Rattle.std.specs.Str.{bytes_eq};
 
 use cweb_lines::{Shelf, ShelfFault};

@@ -8,8 +8,8 @@ use Rattle.cweb_system.specs.declared.node.FileKey.{FileKey}
 use Rattle.cweb_system.specs.declared.node.Node.{Node}
 use Rattle.cweb_system.specs.Tree.{Tree, IsFile, bytes_of, Appends, Creates, MayCreate, Removes, Renames, SetsMode}
 use Rattle.cweb_system.specs.inner.Drafts.{IsAlone, KeepsDecent}
-use Rattle.cweb_system.specs.Steps.{AreDecent, Arrives, Changes, Disk, IsDecent, IsDraftPlace, NotesFailure, OnDisk, Stays, TakesStep, view}
 use Rattle.cweb_system.specs.inner.Drafts.{IsDraftAlone, IsUnread}
+use Rattle.cweb_system.specs.Steps.{AreDecent, Arrives, Changes, Disk, IsDecent, IsDraftPlace, NotesFailure, OnDisk, Stays, TakesStep, view}
 
 -- Equal functions are equal at each argument.
 pub same_at : {A B : Type 0} {f g : A → B} → f ≡ g → (x : A) → f x ≡ g x

@@ -1,9 +1,8 @@
 -- Definitions that only the functions of this crate cite.
 pub mod Drafts
-pub mod FolderCalls
 pub mod FolderSound
 pub mod Keys
-pub mod ShelfState
 pub mod StreamCalls
 pub mod Streams
 pub mod Written
+pub mod FolderCalls

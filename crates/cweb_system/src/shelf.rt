@@ -29,7 +29,7 @@ pub struct FolderShelf<F: FileSystem + Drop> {
 
 impl<F: FileSystem + Drop> FolderShelf<F> {
     ghost use Rattle.cweb_system.specs.Bins.{bins_model, bins_read, bins_system, empty_bins, new_shelf};
-    ghost use Rattle.cweb_system.specs.inner.ShelfState.{shelf_model, shelf_read, shelf_system};
+    ghost use Rattle.cweb_system.specs.inner.FolderCalls.{shelf_model, shelf_read, shelf_system};
 
     /// A shelf that doesn't record what it opens.
     pub fn new(fs: F) -> Self
@@ -65,11 +65,7 @@ impl<F: FileSystem + Drop> FolderShelf<F> {
         ensures read { bins_read result ≡ unwrap_or (shelf_read self) [] }
         ensures empty { bins_model F.FileSystem result ≡ empty_bins F.FileSystem }
     {
-        let FolderShelf {
-            fs,
-            read,
-            failed: _,
-        } = self;
+        let FolderShelf { fs, read, .. } = self;
         FolderBins::new(alloc, fs, recorded(alloc, read))
     }
 
@@ -106,7 +102,7 @@ fn recorded(alloc: Global, read: Option<FileSet>) -> FileSet
 }
 
 impl<F: FileSystem + Drop> Shelf for FolderShelf<F> {
-    ghost use Rattle.cweb_system.specs.inner.ShelfState.{shelf_model};
+    ghost use Rattle.cweb_system.specs.inner.FolderCalls.{shelf_model};
 
     type R = F::File;
 

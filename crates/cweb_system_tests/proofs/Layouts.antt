@@ -23,7 +23,3 @@ pub value_passed : {V : Type 0} (facts : List (Fact V)) (i : ℕ) (fact : Fact V
     → fact ≡ get_or facts i fact → bytes_eq (string_bytes fact.path) path ≡ false
     → value_of (drop i facts) path ≡ value_of (drop (i + 1) facts) path
 value_passed facts i fact path within is test = value_next facts i fact path false within is test
-
-pub value_none : {V : Type 0} (facts : List (Fact V)) (i : ℕ) (path : List ℕ) → length facts ≤ i
-    → value_of (drop i facts) path ≡ None
-value_none {V} facts i path all = ap (λ (l : List (Fact V)). value_of l path) (drop_all i facts all)

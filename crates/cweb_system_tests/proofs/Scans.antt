@@ -3,7 +3,7 @@ use Rattle.std.proofs.Common.{◌≡◌, ◌∙◌, ◌<◌, ◌≤◌, ◌+◌,
 use Rattle.std.proofs.lemmas.List.{take_more, length-append}
 use Rattle.std.proofs.lemmas.Option.{slice_get_within}
 use Rattle.std.specs.List.{slice_get}
-use Rattle.std.specs.Option.{is_some, MatchOption}
+use Rattle.std.specs.Option.{MatchOption}
 use Rattle.std.specs.Prelude.{Result, Ok, Err, OnOk, IfSome}
 use Rattle.std.specs.Str.{bytes_eq}
 use Rattle.cweb_system_tests.specs.declared.memory_folder.log.Change.{Change}
@@ -83,12 +83,8 @@ first_byte (x ∷ xs) some = refl
 
 moded_file : (k key : FileKey) (mode : ℕ) (found : Option Node)
     → IsFile k (node_with_mode key mode found) → IsFile k found
-moded_file k key mode None is = is
 moded_file k key mode (Some (Node.File f m)) is = is
-moded_file k key mode (Some Node.Link) is = is
-moded_file k key mode (Some (Node.Unknown why)) is = is
-moded_file k key mode (Some (Node.Folder f)) is = is
-moded_file k key mode (Some (Node.Device f)) is = is
+moded_file k key mode _ is = is
 
 above : (k : FileKey) (at : _) (node : Node) (m : ℕ) → IsAbove (Put at node) m → IsFile k (Some node) → k.number < m
 above k at (Node.File f mode) m is same = subst (λ (g : FileKey). g.number < m) same is
@@ -100,10 +96,7 @@ above k at (Node.Device f) m is same = absurd same
 -- The node that a change moves is one that it puts there.
 moves : (from to : _) (node : Node) (m : ℕ) → IsAbove (Move from to node) m → IsAbove (Put to node) m
 moves from to (Node.File f mode) m is = is
-moves from to Node.Link m is = is
-moves from to (Node.Unknown why) m is = is
-moves from to (Node.Folder f) m is = is
-moves from to (Node.Device f) m is = is
+moves from to _ m is = is
 
 step_below : (c : Change) (found : Option Node) (p : List ℕ) (k : FileKey) (m : ℕ) → IsAbove c m
     → (IsFile k found → k.number < m) → IsFile k (node_step c p found) → k.number < m
@@ -143,10 +136,6 @@ below_next log i n m c within is le above' below p k now = step_below c (nodes_b
 pub on_ok : {A E : Type 0} (r : Result A E) (P Q : Type 0) → (P → Q) → OnOk r P → OnOk r Q
 on_ok (Ok x) P Q then holds = then holds
 on_ok (Err e) P Q then holds = tt
-
-pub none_is : (o : Option Node) → is_some o ≡ false → o ≡ None
-none_is None test = refl
-none_is (Some x) test = cc
 
 pub match_some : {A : Type 0} (o : Option A) (a : A) (P : Type 0) (Q : A → Type 0) → o ≡ Some a
     → MatchOption o P Q → Q a

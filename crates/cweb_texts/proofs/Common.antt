@@ -28,14 +28,12 @@ pub use Rattle.cweb_texts.specs.declared.edges.Edge.{Edge}
 pub use Rattle.cweb_texts.specs.declared.words.key.Key.{Key}
 pub use Rattle.cweb_texts.specs.declared.words.word.Word.{Word}
 pub use Rattle.cweb_texts.specs.inner.StringTables.{IsByteId, AreByteIds, IsStringTable}
-pub use Rattle.cweb_texts.specs.inner.Chains.{IsLink, AreChains}
-pub use Rattle.cweb_texts.specs.inner.Edges.{AreStoredEdges, IsStoredEdge, is_high, is_numeric, is_known_edge}
-pub use Rattle.cweb_texts.specs.inner.Edges.{punctuator_edge, punctuator_edge_by}
-pub use Rattle.cweb_texts.specs.inner.Keys.{AreBytes, short_key, middle_key, long_key, hashed_key, home_bucket_of}
-pub use Rattle.cweb_texts.specs.inner.StringLists.{strings_from, AreEnds, string_start, IsFromStart, text_bytes}
-pub use Rattle.cweb_texts.specs.inner.StringLists.{string_at, IsStringList}
 pub use Rattle.cweb_texts.specs.inner.StringTables.{StringTableModel, InternsWord, has_word, table_model, AddsString, TakesString, TakesWord}
-pub use Rattle.cweb_texts.specs.inner.Words.{word_string, have_string, DescribesString, DescribeStrings, FindsString}
-pub use Rattle.cweb_texts.specs.inner.Words.{PushesWord, compare_vecs, Entries, entry_word, IsInserted, AreMapped}
-pub use Rattle.cweb_texts.specs.inner.Words.{AreInterned}
+pub use Rattle.cweb_texts.specs.inner.Words.{IsLink, AreChains, AreBytes, short_key, middle_key, long_key, hashed_key}
+pub use Rattle.cweb_texts.specs.inner.Words.{home_bucket_of, word_string, have_string, DescribesString, DescribeStrings}
+pub use Rattle.cweb_texts.specs.inner.Words.{FindsString, PushesWord, compare_vecs, Entries, entry_word, IsInserted}
+pub use Rattle.cweb_texts.specs.inner.Words.{AreMapped, AreInterned}
+pub use Rattle.cweb_texts.specs.inner.StringLists.{AreStoredEdges, IsStoredEdge, is_high, is_numeric, is_known_edge}
+pub use Rattle.cweb_texts.specs.inner.StringLists.{punctuator_edge, punctuator_edge_by, strings_from, AreEnds}
+pub use Rattle.cweb_texts.specs.inner.StringLists.{string_start, IsFromStart, text_bytes, string_at, IsStringList}
 pub use Rattle.cweb_texts.specs.surface.StringTables.{total, with_word}

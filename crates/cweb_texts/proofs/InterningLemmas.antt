@@ -1,7 +1,6 @@
 -- What interning a word does, by where the word is found or added.
 use Rattle.cweb_texts.proofs.Common.{◌≡◌, ℕ, ◌∙◌, sym, ap, total, true, false, ◌||◌, List, [], ◌∷◌, ◌++◌, map, length, Some, None, refl, arith, length-append, append-nil, map-append, or_comm, list_any-append, slice_get, bytes_eq, Vec, list_any, lookup, is_eq, nat_cmp, slice_cmp, Global, Word, Entries, AreBytes, FindsString, PushesWord, AreInterned, IsInserted, word_string, have_string, entry_word, StringTableModel, AddsString, InternsWord, has_word, table_model}
-use Rattle.cweb_texts.specs.inner.Keys.{key_of}
-use Rattle.cweb_texts.specs.inner.Words.{AreMapped, InternsSorted, is_word}
+use Rattle.cweb_texts.specs.inner.Words.{key_of, AreMapped, InternsSorted, is_word}
 use Rattle.std.proofs.lemmas.Option.{slice_get_within}
 use Rattle.std.specs.Prelude.{if◌then◌else◌, unwrap_or}
 use Rattle.cweb_texts.proofs.ListLemmas.{get-push, or-assoc, or-last}

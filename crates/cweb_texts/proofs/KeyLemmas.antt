@@ -1,6 +1,6 @@
 -- The key of a word, by its length.
 use Rattle.cweb_texts.proofs.Common.{◌≡◌, ℕ, zero, suc, ◌+◌, ◌-◌, ◌<◌, ◌≤◌, true, false, List, [], ◌∷◌, ◌++◌, length, take, drop, get_or, refl, sym, ◌∙◌, ap, arith, length-drop, nat_lt, slice_range, w32, w64, from_le_bytes, take_all, take-append-drop, drop-drop, same_number_lists, le_bytes_4, le_bytes_8, length-take-le, Key, AreBytes, short_key, middle_key, long_key, hashed_key}
-use Rattle.cweb_texts.specs.inner.Keys.{key_of}
+use Rattle.cweb_texts.specs.inner.Words.{key_of}
 
 less : (n m : ℕ) → n < m → nat_lt n m ≡ true
 less n m h = grind (arith, h)

@@ -1,7 +1,7 @@
 -- Words and their strings.
 use Rattle.cweb_texts.proofs.Common.{◌≡◌, ℕ, zero, suc, true, false, List, [], ◌∷◌, ◌++◌, map, Some, refl, arith, slice_get, bytes_eq, bytes_decides, any_passes_from_place, Word, word_string, have_string, DescribesString, DescribeStrings, FindsString}
 use Rattle.std.proofs.lemmas.Option.{slice_get-map}
-use Rattle.cweb_texts.specs.inner.Keys.{key_of, home_bucket_of}
+use Rattle.cweb_texts.specs.inner.Words.{key_of, home_bucket_of}
 use Rattle.cweb_texts.proofs.StringListLemmas.{get-grow, get-string}
 
 abbrev pub describes-grow : (strings more : List (List ℕ)) (w : Word) → DescribesString strings w

@@ -1,7 +1,4 @@
 -- What functions of this crate promise one another.
-pub mod Edges
-pub mod StringLists
-pub mod Keys
-pub mod Words
-pub mod Chains
 pub mod StringTables
+pub mod Words
+pub mod StringLists

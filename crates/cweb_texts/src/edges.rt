@@ -3,8 +3,9 @@
 ghost use Rattle.std.specs.Prelude.{◌≡◌};
 ghost use Rattle.std.specs.List.{list_any};
 ghost use Rattle.cweb_texts.specs.Edges.{first_is, is_operator};
-ghost use Rattle.cweb_texts.specs.inner.Edges.{is_high, is_numeric, edge_by_last};
-ghost use Rattle.cweb_texts.specs.inner.Edges.{punctuator_edge, punctuator_edge_by, string_edge};
+ghost use Rattle.cweb_texts.specs.inner.StringLists.{is_high, is_numeric, edge_by_last};
+ghost use Rattle.cweb_texts.specs.inner.StringLists.{punctuator_edge, punctuator_edge_by};
+ghost use Rattle.cweb_texts.specs.inner.StringLists.{string_edge};
 
 /// What decides whether a blank comes between a token that is printed as its string and its neighbours.
 ///

@@ -1,7 +1,7 @@
 // The lists of a `StringList`, as slices.
 
 ghost use Rattle.std.specs.Prelude.{◌≡◌, ◌<◌, ◌+◌, List, ℕ, length, slice_get, Some};
-ghost use Rattle.cweb_texts.specs.inner.Edges.{IsStoredEdge};
+ghost use Rattle.cweb_texts.specs.inner.StringLists.{IsStoredEdge};
 
 use crate::edges::Edge;
 use std::marker::Model;

@@ -1,7 +1,7 @@
 // Strings in one table, those that repeat stored once.
 
 ghost use Rattle.std.specs.Prelude.{◌≡◌, ◌<◌, ◌+◌, ℕ, Some, false, length, slice_get, IfSome};
-ghost use Rattle.cweb_texts.specs.inner.Keys.{key_of};
+ghost use Rattle.cweb_texts.specs.inner.Words.{key_of};
 ghost use Rattle.cweb_texts.specs.inner.StringTables.{AreByteIds, IsByteId, InternsWord, StringTableModel};
 ghost use Rattle.cweb_texts.specs.inner.StringTables.{TakesString, TakesWord, empty_table, has_word};
 ghost use Rattle.cweb_texts.specs.inner.StringTables.{string_limit};
@@ -189,13 +189,7 @@ impl StringTable {
     pub fn close(self) -> StringList
         ensures { result ≡ self.strings }
     {
-        let StringTable {
-            alloc: _,
-            strings: list,
-            table: _,
-            sorted: _,
-            byte_ids: _,
-        } = self;
+        let StringTable { strings: list, .. } = self;
         list
     }
 }

@@ -2,8 +2,8 @@
 
 ghost use Rattle.std.specs.Prelude.{◌≡◌, ◌<◌, ◌+◌, ◌^◌, [], List, ℕ, length, drop, take};
 ghost use Rattle.std.specs.Prelude.{slice_get, Some, OnOk};
-ghost use Rattle.cweb_texts.specs.inner.Edges.{IsStoredEdge};
-ghost use Rattle.cweb_texts.specs.inner.StringLists.{IsFromStart, TakesNext, text_bytes};
+ghost use Rattle.cweb_texts.specs.inner.StringLists.{IsStoredEdge, IsFromStart, TakesNext};
+ghost use Rattle.cweb_texts.specs.inner.StringLists.{text_bytes};
 
 use crate::edges::{Edge, string_edge};
 use crate::slices::StringSlices;

@@ -2,8 +2,7 @@
 use Rattle.cweb_tools.proofs.Common.{◌≡◌, ◌⊎◌, inl, inr, ℕ, List, [], ◌∙◌, refl, sym, ap, IsSome, Option, Some, None, Stop, ReadFault, subject, contents_of, failed_reads}
 use Rattle.std.specs.Prelude.{Err, option_map, unwrap_or}
 use Rattle.cweb_files.specs.Shelves.{Observed, ShelfContents, ShelfModel}
-use Rattle.cweb_input.specs.surface.ReaderNames.{BlamesFile, ReadsShelf, name_of_file}
-use Rattle.cweb_input.specs.surface.ReaderNames.{shelf_after as model_after}
+use Rattle.cweb_input.specs.surface.OpenSources.{BlamesFile, ReadsShelf, name_of_file, shelf_after as model_after}
 use Rattle.cweb_files.specs.declared.place.FileId.{FileId}
 use Rattle.cweb_tools.proofs.Broken.{shelf_after}
 

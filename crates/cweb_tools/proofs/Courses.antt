@@ -1,6 +1,6 @@
 -- The way that a run goes exists, and there is no other.
 use Rattle.cweb_tools.proofs.Common.{◌≡◌, ◌∙◌, ℕ, List, Bor, map, options_by, Option, Some, None, Result, Err, Stop, refl, sym, ap, World, Found, WebNames, OptionsModel, Course, change_name, merging, IsMergeCourse, found_course, merge_course, merge-run_steps, contents_found, TangleCourse, IsTangleCourse, tangle_course, tangled, web_at, change_at, started}
-use Rattle.cweb_lines.specs.inner.Total.{merge_yields}
+use Rattle.cweb_lines.proofs.EnoughSteps.{merge_yields}
 use Rattle.cweb_tools.specs.Course.{IsFoundCourse, unread, not_there, change_not_there}
 
 found_comes : (world : World) (names : WebNames) (web : Option Found) (change : Option (Option Found))

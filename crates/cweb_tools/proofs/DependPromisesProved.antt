@@ -1,5 +1,5 @@
 -- A run of `wdep` keeps its promises, by how it ends.
-use Rattle.cweb_tools.proofs.Common.{◌≡◌, ℕ, ◌∷◌, refl, Some, World, OptionsModel, Devices, judges, TangleCourse, unread, not_there, change_not_there, tangling, CanCome, EndsAs, opening_acts, tangle_course, depend_acts, depend_web_acts}
+use Rattle.cweb_tools.proofs.Common.{◌≡◌, ℕ, ◌∷◌, refl, Some, World, OptionsModel, Devices, judges, TangleCourse, unread, CanCome, EndsAs, opening_acts, tangle_course, depend_acts, depend_web_acts}
 use Rattle.cweb_tools.specs.declared.rule_targets.Targets.{Targets}
 use Rattle.cweb_tools.proofs.Doing.{ends_on}
 use Rattle.cweb_tools.proofs.RunEnds.{EndsRun, Judges, judged}
@@ -8,9 +8,7 @@ use Rattle.cweb_tools.proofs.RunEnds.{EndsRun, Judges, judged}
 depend_is : (targets : Targets) (args : OptionsModel) (course : TangleCourse) → CanCome (Some args) course
     → depend_acts targets course ≡ judges ∷ opening_acts (depend_web_acts targets) course
 depend_is targets args unread can = absurd can
-depend_is targets args (not_there web) can = refl
-depend_is targets args (change_not_there change) can = refl
-depend_is targets args (tangling files events web) can = refl
+depend_is targets args _ can = refl
 
 pub depend_judges : (targets : Targets) (args : OptionsModel) (course : TangleCourse) → CanCome (Some args) course
     → Judges (depend_acts targets course)

@@ -1,5 +1,7 @@
 -- A file that is written, and the end of a run after calls.
-use Rattle.cweb_tools.proofs.Common.{◌≡◌, inl, inr, ℕ, Bool, List, [], ◌∷◌, ◌++◌, refl, ap, subst, Option, Some, None, Result, Ok, Err, Stop, WriteFault, LogFault, Memory, stop_line, Logs, SinkModel, changed, failing, with_file, without_file, writes, DoesInBoth, DoesInOut, Shown, Act, Breaks, Ending, ending, plans, reserves, Does, RunEnds, Devices, FailedReads, at, EndsInLog, DoesInLog, log_ending, Numbers, closing_acts}
+use Rattle.cweb_tools.proofs.Common.{◌≡◌, inl, inr, ℕ, Bool, List, [], ◌∷◌, ◌++◌, refl, ap, subst, Option, Some, None, Result, Ok, Err, Stop, WriteFault, LogFault, Memory, stop_line, Logs, SinkModel, changed, failing, with_file, without_file, writes, DoesInBoth, DoesInOut, Shown, Act, Breaks, Ending, ending, plans, reserves, Does, RunEnds, Devices, FailedReads, at, EndsInLog, DoesInLog, log_ending, Numbers, closing_acts, when, Scanned}
+use Rattle.cweb_log.specs.Items.{counts}
+use Rattle.cweb_tools.specs.Tangle.{numbers_of}
 use Rattle.cweb_tools.proofs.Doing.{ends_done, ends_halted, ends_in, no_shelf}
 use Rattle.cweb_tools.proofs.Broken.{log_until}
 
@@ -43,12 +45,20 @@ memory_halts act acts {shelf = shelf} {out = out} {old = old} breaks logs one = 
     {then = at shelf out old} (record { runs = inr breaks }) (record { log = logs; others = refl }) one
 
 -- The closing acts, rewritten along equal numbers.
-pub closing_on : (shown : Shown)
-    {n n' : Numbers} {count count' : ℕ} {missing missing' : Bool} {why : Option Ending} {old new : SinkModel}
-    → n ≡ n' → count ≡ count' → missing ≡ missing' → DoesInLog (closing_acts shown n count missing) why old new
-    → DoesInLog (closing_acts shown n' count' missing') why old new
-closing_on shown {why} {old} {new} of_web of_faults of_text does = subst (λ (acts :
-    List Act). DoesInLog acts why old new) (λ i. closing_acts shown (of_web i) (of_faults i) (of_text i)) does
+pub closing_on : (shown : Shown) (n : Numbers)
+    {count count' : ℕ} {missing missing' : Bool} {why : Option Ending} {old new : SinkModel}
+    → count ≡ count' → missing ≡ missing' → DoesInLog (closing_acts shown n count missing) why old new
+    → DoesInLog (closing_acts shown n count' missing') why old new
+closing_on shown n {why = why} {old} {new} of_faults of_text does = subst (λ (acts :
+    List Act). DoesInLog acts why old new) (λ i. closing_acts shown n (of_faults i) (of_text i)) does
+
+-- The counts of a scanned web, by the numbers of its names and macros.
+pub counts_on : (wanted : Bool) (made : Scanned) {n m : ℕ} {why : Option Ending} {old new : SinkModel}
+    → n ≡ (numbers_of made).names → m ≡ (numbers_of made).macros
+    → DoesInLog (when wanted (counts made.sections n m)) why old new
+    → DoesInLog (when wanted (counts made.sections (numbers_of made).names (numbers_of made).macros)) why old new
+counts_on wanted made {why = why} {old} {new} names macros does = subst (λ (acts : List Act). DoesInLog acts why old
+    new) (λ i. when wanted (counts made.sections (names i) (macros i))) does
 
 -- Only a log fault increases the log's failure count.
 pub stop_counted : (stop : Stop) {about : List ℕ} → (stop ≡ LogFault → ⊥) → {acts : List Act} {a b : SinkModel}

@@ -9,7 +9,7 @@ use Rattle.cweb_system.specs.declared.file_system.FileSystem.{Ghosts as FileSyst
 use Rattle.cweb_system.specs.declared.folder_bins.FolderBins.{FolderBins}
 use Rattle.cweb_system.specs.declared.shelf.FolderShelf.{FolderShelf}
 use Rattle.cweb_system.specs.Bins.{bins_model, bins_system, empty_bins, file_in, folder_contents, new_shelf}
-use Rattle.cweb_system.specs.inner.ShelfState.{shelf_model}
+use Rattle.cweb_system.specs.inner.FolderCalls.{shelf_model}
 use Rattle.cweb_system.specs.Steps.{Disk, OnDisk, view}
 use Rattle.cweb_system.specs.Tree.{Tree, contents}
 use Rattle.cweb_tools.specs.InFolder.{AreIn, KeepsInFolder, devices_before}

@@ -1,6 +1,5 @@
 -- What runs leave in the shelf.
-use Rattle.cweb_tools.proofs.Common.{◌≡◌, inl, inr, ℕ, List, [], ◌∷◌, refl, ◌∙◌, ap, arith, Option, Some, None, flat_map, line, Devices, FailedReads, SinkModel, Stop, ReadFault, Act, judges, after_act, ending, PerformsActs, RunEnds, completes, stops, FollowsActs, IsStopped}
-use Rattle.std.specs.Prelude.{is_some, option_map}
+use Rattle.cweb_tools.proofs.Common.{◌≡◌, inl, inr, ℕ, List, [], ◌∷◌, ◌∙◌, ap, arith, Some, None, flat_map, line, Devices, FailedReads, SinkModel, Stop, ReadFault, Act, judges, after_act, ending, PerformsActs, RunEnds, completes, stops, FollowsActs, IsStopped}
 use Rattle.cweb_tools.specs.laws.LeftDevices.{LeavesShelf}
 use Rattle.cweb_tools.proofs.Broken.{broken, shelf_after}
 use Rattle.cweb_tools.proofs.Stopping.{is_stopped, logs_all}

@@ -52,3 +52,4 @@ mod SpacingStarts
 mod SpacingSeam
 mod SpacingLaw
 mod SpacingExamples
+pub mod Terms

@@ -20,7 +20,7 @@ use Rattle.std.specs.declared.cmp.Ordering.TheVariants.{Equal}
 use Rattle.std.specs.Prelude.{slice_index_or}
 use Rattle.std.specs.Str.{bytes_eq}
 use Rattle.cweb_texts.specs.declared.words.key.Key.{Key}
-use Rattle.cweb_texts.specs.inner.Keys.{key_of}
+use Rattle.cweb_texts.specs.inner.Words.{key_of}
 use Rattle.cweb_tools.specs.Depfile.{add_once, each_once}
 use Rattle.cweb_tools.specs.inner.RuleModel.{keys_of}
 

@@ -1,5 +1,5 @@
 -- How a whole run ends, by the result of parsing its words.
-use Rattle.cweb_tools.proofs.Common.{◌≡◌, ◌⊎◌, inl, inr, ℕ, List, [], ◌∷◌, ◌++◌, refl, sym, subst, Option, Some, None, World, Stop, Usage, Memory, LogFault, banner, stopped, stop_line, OptionsModel, Logs, SinkModel, Devices, FailedReads, Act, ending, judges, says, at, RunEnds, Does, DoesInLog, FollowsActs, TangleCourse, change_not_there, not_there, script, acts_status, tangling, unread, when, CanCome, opening_acts, tangle_later, EndsAs, shown_by, tangle_course}
+use Rattle.cweb_tools.proofs.Common.{◌≡◌, ◌⊎◌, inl, inr, ℕ, List, [], ◌∷◌, ◌++◌, refl, sym, subst, Option, Some, None, World, Stop, Usage, Memory, LogFault, banner, stopped, stop_line, OptionsModel, Logs, SinkModel, Devices, FailedReads, Act, ending, judges, says, at, RunEnds, Does, DoesInLog, FollowsActs, TangleCourse, script, acts_status, unread, when, CanCome, opening_acts, tangle_later, EndsAs, shown_by, tangle_course}
 use Rattle.cweb_tools.proofs.Doing.{does_in, does_on, ends_halted, ends_on}
 use Rattle.cweb_tools.proofs.DoingFiles.{log_halts_all}
 use Rattle.cweb_tools.proofs.Statuses.{banner_status}
@@ -10,9 +10,7 @@ pub script_is : (args : OptionsModel) (course : TangleCourse) → CanCome (Some 
     → script args.shown course ≡ judges ∷ (when args.shown.banner banner
     ++ opening_acts (tangle_later args.shown) course)
 script_is args unread can = absurd can
-script_is args (not_there web) can = refl
-script_is args (change_not_there change) can = refl
-script_is args (tangling names events web) can = refl
+script_is args _ can = refl
 
 -- The words were parsed.
 pub judged : {seen : Devices} → Does (judges ∷ []) None seen seen

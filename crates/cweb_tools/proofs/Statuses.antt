@@ -33,8 +33,7 @@ quiet_on b item acts is rest = ap (λ (f : Bool). f || has_fault acts) is ∙ re
 shuts : (none missing : Bool) (count : ℕ)
     → is_fault (if none then (if missing then see_warning else no_errors) else faults count) ≡ false
 shuts true true count = refl
-shuts true false count = refl
-shuts false missing count = refl
+shuts _ _ count = refl
 
 -- Only a refused plan has a fault of its own.
 abbrev is_refused : Planning → Bool
@@ -88,9 +87,8 @@ web_status_is shown web =
 
 fault-depend : (targets : Targets) (files : List (List ℕ)) (plan : Planning)
     → has_fault (depend_plan_acts targets files plan) ≡ is_refused plan
-fault-depend targets files (refused text) = refl
 fault-depend targets files (planned outputs true) = refl
-fault-depend targets files (planned outputs false) = refl
+fault-depend targets files _ = refl
 
 pub depend_status_is : (targets : Targets) (files : List (List ℕ)) (web : Web)
     → acts_status (depend_web_acts targets files web) ≡ web_status web

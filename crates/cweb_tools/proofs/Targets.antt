@@ -1,7 +1,7 @@
 -- The targets that `wdep` prints are the files that `ctangle` writes.
 use Rattle.cweb_tools.proofs.Common.{◌≡◌, ℕ, Bool, true, false, List, [], ◌∷◌, ◌++◌, map, refl, sym, ◌∙◌, ap, File, Event, LogItem, Shown, Act, opens, reads, Planning, planned, Web, tangling, written_files, outputs_acts, planned_acts, web_acts, tangle_files, dependencies, fault_count}
 use Rattle.cweb_tools.specs.Depfile.{depfile, each_once}
-use Rattle.cweb_tools.specs.laws.Targets.{TargetsAreWrittenFiles}
+use Rattle.cweb_tools.specs.laws.LeftDevices.{TargetsAreWrittenFiles}
 use Rattle.cweb_tools.specs.declared.rule_targets.Targets.{Targets}
 use Rattle.cweb_tools.specs.declared.rule_targets.Targets.TheVariants.{All, Main}
 use Rattle.cweb_tools.specs.Depend.{among_outputs}

@@ -1,11 +1,11 @@
 // What `wdep` says of itself.
-ghost use Rattle.std.specs.Prelude.{◌≡◌, ◌<◌, ◌+◌, ◌^◌, codes, map};
+ghost use Rattle.std.specs.Prelude.{◌≡◌, ◌<◌, ◌+◌, codes, map};
 ghost use Rattle.std.specs.Option.{option_copied};
 ghost use Rattle.cweb_log.specs.Log.{stop_line};
 ghost use Rattle.cweb_log.specs.DeviceModels.{Logs};
-ghost use Rattle.cweb_tools.specs.inner.Counts.{SinkCountsFit};
+ghost use Rattle.cweb_tools.specs.inner.Does.{SinkCountsFit};
 ghost use Rattle.cweb_files.specs.Sinks.{FailsWithin, written};
-ghost use Rattle.cweb_tools.specs.inner.About.{about_wdep, about_word};
+ghost use Rattle.cweb_tools.specs.inner.RuleModel.{about_wdep, about_word};
 
 use cweb_lines::{Sink, Stop, write_all};
 use cweb_log::log_stop;

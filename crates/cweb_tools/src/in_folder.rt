@@ -6,7 +6,7 @@ ghost use Rattle.cweb_system.specs.Bins.{bins_model, bins_read, bins_system, new
 ghost use Rattle.cweb_system.specs.Steps.{AreDecent, OnDisk};
 ghost use Rattle.cweb_log.specs.CommandLine.{options_by, web_names_by};
 ghost use Rattle.cweb_log.specs.DeviceModels.{contents_of, failed_reads};
-ghost use Rattle.cweb_tools.specs.inner.Counts.{SinkCountsFit};
+ghost use Rattle.cweb_tools.specs.inner.Does.{SinkCountsFit};
 ghost use Rattle.cweb_tools.specs.Course.{world_of};
 ghost use Rattle.cweb_tools.specs.Depend.{DependPromises, DependsFreely, targets_by};
 ghost use Rattle.cweb_tools.specs.Headline.{RanFreely, written_files};

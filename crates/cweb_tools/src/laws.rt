@@ -5,12 +5,11 @@ ghost use Rattle.cweb_lines.specs.Events.{Event};
 ghost use Rattle.cweb_log.specs.declared.shown.Shown.{Shown};
 ghost use Rattle.cweb_tools.specs.Acts.{RunEnds};
 ghost use Rattle.cweb_tools.specs.Headline.{files_in};
-ghost use Rattle.cweb_tools.specs.laws.Leaves.{LeavesFiles, tangle_files};
-ghost use Rattle.cweb_tools.specs.laws.LeftDevices.{EveryRunLeavesBins, EveryRunLeavesTheShelf, draft_in};
-ghost use Rattle.cweb_tools.specs.laws.Targets.{TargetsAreWrittenFiles};
+ghost use Rattle.cweb_tools.specs.laws.RunEffects.{LeavesFiles, tangle_files};
 ghost use Rattle.cweb_tools.specs.laws.RunEffects.{EveryRunLeavesDevices, EveryMergeLeavesOutput};
-ghost use Rattle.cweb_tools.specs.Script.{TangleCourse, Web, refused, script};
-ghost use Rattle.cweb_tools.specs.Script.{tangling};
+ghost use Rattle.cweb_tools.specs.laws.LeftDevices.{EveryRunLeavesBins, EveryRunLeavesTheShelf};
+ghost use Rattle.cweb_tools.specs.laws.LeftDevices.{draft_in, TargetsAreWrittenFiles};
+ghost use Rattle.cweb_tools.specs.Script.{TangleCourse, Web, refused, script, tangling};
 ghost use Rattle.cweb_tools.specs.Spacing.{Spacing};
 
 /// The committed files are the first of the expected ones, in order, each whole. All other files are unchanged.

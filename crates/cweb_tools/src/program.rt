@@ -1,7 +1,6 @@
 // The arguments and the folder of included files, for all three programs.
-ghost use Rattle.std.specs.Prelude.{◌≡◌, ◌<◌, ◌+◌, ◌^◌, ℕ, List, [], None, Some, All, IfOk};
-ghost use Rattle.std.specs.Prelude.{codes, map, option_map, string_bytes};
-ghost use Rattle.std.specs.Prelude.{IsUtf8};
+ghost use Rattle.std.specs.Prelude.{◌≡◌, ◌<◌, ◌+◌, ◌^◌, ℕ, List, [], None, Some, All, IfOk, codes};
+ghost use Rattle.std.specs.Prelude.{map, option_map, string_bytes, IsUtf8};
 ghost use Rattle.cweb_tools.specs.inner.Variables.{Variables};
 ghost use Rattle.cweb_log.specs.Log.{stop_line};
 ghost use Rattle.cweb_log.specs.DeviceModels.{Logs};

@@ -3,11 +3,13 @@ ghost use Rattle.std.specs.Prelude.{◌<◌, ◌+◌, ◌^◌};
 ghost use Rattle.cweb_log.specs.inner.LogText.{item_of};
 ghost use Rattle.cweb_tools.specs.inner.Does.{DoesInLog, log_ending};
 ghost use Rattle.cweb_tools.specs.Script.{closing_acts, starred_acts, when};
-ghost use Rattle.cweb_tools.specs.inner.Web.{counted};
+ghost use Rattle.cweb_scan.specs.surface.Scan.{scanned_model};
+ghost use Rattle.cweb_tools.specs.Tangle.{numbers_of};
 
-use crate::web::Numbers;
+use crate::web::count_parts;
 use cweb_lines::{Sink, SinkFault};
 use cweb_log::{LogLine, LogText, Shown, write_log};
+use cweb_scan::Scanned;
 
 /// Logs a line if it is wanted.
 pub(crate) fn say<L: Sink>(wanted: bool, line: LogLine<'_>, log: &mut L) -> Result<(), SinkFault>
@@ -40,16 +42,20 @@ pub(crate) fn say_starred<L: Sink>(
 /// Logs what comes after the outputs: the statistics and the closing line.
 pub(crate) fn say_end<L: Sink>(
     shown: Shown,
-    numbers: Numbers,
+    scanned: &Scanned,
     count: u128,
     missing: bool,
     log: &mut L,
 ) -> Result<(), SinkFault>
     requires { (L.model log.old).failed + 1 < 2 ^ 64 }
-    ensures { DoesInLog (closing_acts shown (counted numbers) count missing) (log_ending result)
-        (L.model log.old) (L.model log.new) }
+    ensures { DoesInLog (closing_acts shown (numbers_of (scanned_model scanned.now)) count missing)
+        (log_ending result) (L.model log.old) (L.model log.new) }
 {
-    let counts = LogLine::Counts(numbers.sections, numbers.names, numbers.macros);
+    let counts = LogLine::Counts(
+        scanned.sections,
+        scanned.store.names(),
+        count_parts(scanned.store.macros()),
+    );
     say(shown.statistics, counts, log)?;
     say(shown.closing, LogLine::Closing(count, missing), log)
 }

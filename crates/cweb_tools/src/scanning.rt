@@ -2,17 +2,14 @@
 ghost use Rattle.std.specs.Prelude.{◌≡◌, ◌<◌, ◌+◌, ◌^◌, Some, IfOk, IfErr, OnOk, length};
 ghost use Rattle.std.specs.Option.{option_copied};
 ghost use Rattle.cweb_lines.specs.surface.MergerCalls.{so_far};
-ghost use Rattle.cweb_scan.specs.surface.Scan.{IsScanBelow};
-ghost use Rattle.cweb_scan.specs.surface.ScannedModel.{scanned_model};
-ghost use Rattle.cweb_log.specs.inner.Log.{start_subject};
+ghost use Rattle.cweb_scan.specs.surface.Scan.{IsScanBelow, scanned_model};
 ghost use Rattle.cweb_log.specs.surface.Options.{options_of};
 ghost use Rattle.cweb_log.specs.DeviceModels.{contents_of, failed_reads};
-ghost use Rattle.cweb_tools.specs.Course.{change_name, world_of};
-ghost use Rattle.cweb_tools.specs.inner.Scanning.{CompletesScan, StopsScan};
-ghost use Rattle.cweb_tools.specs.inner.Tangle.{tangle_course};
+ghost use Rattle.cweb_tools.specs.Course.{world_of};
+ghost use Rattle.cweb_tools.specs.inner.Tangle.{CompletesScan, StopsScan, tangle_course};
 
-use crate::subjects::{folder, subject};
-use cweb_lines::{Merger, Shelf, Sink, Stop};
+use crate::subjects::{folder, start_subject, subject};
+use cweb_lines::{Merger, Shelf, Sink};
 use cweb_log::{Options, log_stop};
 use cweb_scan::{Scanned, scan};
 use std::alloc::Global;
@@ -41,33 +38,23 @@ pub(crate) fn scan_web<S: Shelf, L: Sink>(
         (failed_reads (S.model shelf.old)) (failed_reads (S.model shelf.new))
         (L.model log.old) (L.model log.new) status) }
 {
-    let started = Merger::start(
+    let mut merger = match Merger::start(
         alloc,
         shelf,
         options.web.as_str(),
         options.second(),
         options.change(),
         folder(inputs),
-    );
-    let mut merger = match started {
+    ) {
         Ok(merger) => merger,
-        Err(stop) => return Err(log_stop(log, stop, start_subject(options, stop))),
+        Err(stop) => return Err(log_stop(
+            log,
+            stop,
+            start_subject(options.web.as_str(), options.change(), stop),
+        )),
     };
     match scan(alloc, &mut merger, shelf) {
         Ok(scanned) => Ok((merger, scanned)),
         Err(stop) => Err(log_stop(log, stop, subject(merger.names(), stop))),
-    }
-}
-
-/// The name that the line of a stop at the start of a merge ends in.
-fn start_subject(options: &Options, stop: Stop) -> &str
-    ensures { result.now ≡
-        start_subject (options_of options.now).names.merge.web
-        (change_name (options_of options.now).names.merge.change) stop }
-{
-    match stop {
-        Stop::WebNotOpened => options.web.as_str(),
-        Stop::ChangeNotOpened => options.change().unwrap_or(""),
-        _ => "",
     }
 }

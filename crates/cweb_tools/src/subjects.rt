@@ -1,9 +1,9 @@
-// What both runs share: the folder of included files, and the name that a stop's line ends in.
+// What all runs share: the folder of included files, and the names that the lines of stops end in.
 ghost use Rattle.std.specs.Prelude.{◌≡◌};
 ghost use Rattle.std.specs.Option.{option_copied};
 ghost use Rattle.cweb_input.specs.surface.OpenedFileNames as spec;
-ghost use Rattle.cweb_log.specs.inner.Log.{subject};
-ghost use Rattle.cweb_tools.specs.Course.{folder_of};
+ghost use Rattle.cweb_log.specs.inner.LogText.{start_subject, subject};
+ghost use Rattle.cweb_tools.specs.Course.{change_name, folder_of};
 
 use cweb_lines::{FileNames, Stop};
 use cweb_log::file_name;
@@ -15,6 +15,17 @@ pub(crate) fn folder(inputs: Option<&str>) -> Option<&str>
     match inputs {
         Some(folder) if folder.is_empty() => None,
         inputs => inputs,
+    }
+}
+
+/// The name that the line of a stop at the start of a merge ends in.
+pub(crate) fn start_subject<'a>(web: &'a str, change: Option<&'a str>, stop: Stop) -> &'a str
+    ensures { result.now ≡ start_subject web.now (change_name (option_copied change.entry)) stop }
+{
+    match stop {
+        Stop::WebNotOpened => web,
+        Stop::ChangeNotOpened => change.unwrap_or(""),
+        _ => "",
     }
 }
 

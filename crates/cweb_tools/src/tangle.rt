@@ -1,21 +1,19 @@
 // A run of `ctangle`.
-ghost use Rattle.std.specs.Prelude.{◌≡◌, ◌≢◌, ◌<◌, ◌+◌, ◌^◌, ◌∷◌, ◌==◌, if◌then◌else◌, None, Some};
-ghost use Rattle.std.specs.Prelude.{IfErr, IfOk, map};
+ghost use Rattle.std.specs.Prelude.{◌≡◌, ◌≢◌, ◌<◌, ◌+◌, ◌^◌, None, Some, IfErr, IfOk, map};
 ghost use Rattle.std.specs.Option.{option_copied};
-ghost use Rattle.cweb_scan.specs.surface.ScannedModel.{scanned_model};
+ghost use Rattle.cweb_scan.specs.surface.Scan.{scanned_model};
 ghost use Rattle.cweb_out.specs.surface.Outputs.{IsPlanOf};
 ghost use Rattle.cweb_log.specs.CommandLine.{options_by};
 ghost use Rattle.cweb_log.specs.DeviceModels.{CountsFit, contents_of, devices};
-ghost use Rattle.cweb_tools.specs.inner.Counts.{SinkCountsFit};
+ghost use Rattle.cweb_tools.specs.inner.Does.{SinkCountsFit, DoesInLog, EndsInBoth};
 ghost use Rattle.cweb_log.specs.Items.{banner};
 ghost use Rattle.cweb_log.specs.surface.Options.{options_of};
-ghost use Rattle.cweb_tools.specs.Acts.{LogsEnding, acts_status, ending, plans};
+ghost use Rattle.cweb_tools.specs.Acts.{LogsEnding, acts_status, ending};
 ghost use Rattle.cweb_tools.specs.Course.{world_of};
-ghost use Rattle.cweb_tools.specs.inner.Does.{DoesInLog, EndsInBoth};
 ghost use Rattle.cweb_tools.specs.Script.{planned_acts, web_acts, when};
 ghost use Rattle.cweb_tools.specs.Tangle.{numbers_of, TanglePromises, TanglesFreely};
 ghost use Rattle.cweb_tools.specs.inner.Tangle.{EndsUnread, fault_count, plan_made, status_by};
-ghost use Rattle.cweb_tools.specs.inner.Web.{IsKnown, faults_of, files_of, web_in};
+ghost use Rattle.cweb_tools.specs.inner.Tangle.{IsKnown, faults_of, files_of, web_in};
 
 mod unplanned;
 
@@ -23,7 +21,7 @@ use crate::outputs::write_outputs;
 use crate::saying::{say, say_end, say_starred};
 use crate::scanning::scan_web;
 use crate::tangle::unplanned::tangle_unplanned;
-use crate::web::{Numbers, Web, say_faults, status};
+use crate::web::{Web, say_faults, status};
 use cweb_lines::{Shelf, Sink, Stop};
 use cweb_log::{LogLine, Options, Shown, log_stop};
 use cweb_out::{Bins, Expander, OutBuffer, Plan, plan};
@@ -170,7 +168,7 @@ fn tangle_planned<B: Bins, L: Sink>(
         return log_failed(log, failed.stop, plan.output_name(failed.output));
     }
     let count = web.fault_count();
-    if let Err(_) = say_end(shown, Numbers::of(web.scanned), count, plan.no_text(), log) {
+    if let Err(_) = say_end(shown, web.scanned, count, plan.no_text(), log) {
         return 1;
     }
     status(count)

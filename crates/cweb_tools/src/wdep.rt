@@ -1,18 +1,17 @@
 // A run of `wdep`.
-ghost use Rattle.std.specs.Prelude.{◌≡◌, ◌≢◌, ◌<◌, ◌+◌, ◌^◌, ◌∷◌, ◌++◌, map, None};
+ghost use Rattle.std.specs.Prelude.{◌≡◌, ◌<◌, map, None};
 ghost use Rattle.std.specs.Option.{option_copied};
 ghost use Rattle.cweb_out.specs.surface.Outputs.{IsPlanOf};
 ghost use Rattle.cweb_log.specs.CommandLine.{options_by};
 ghost use Rattle.cweb_log.specs.DeviceModels.{CountsFit, contents_of, devices};
-ghost use Rattle.cweb_tools.specs.inner.Counts.{SinkCountsFit};
+ghost use Rattle.cweb_tools.specs.inner.Does.{SinkCountsFit, EndsInBoth};
 ghost use Rattle.cweb_tools.specs.Acts.{acts_status};
 ghost use Rattle.cweb_tools.specs.Course.{world_of};
 ghost use Rattle.cweb_tools.specs.Depend.{DependPromises, DependsFreely, depend_plan_acts, depend_web_acts};
 ghost use Rattle.cweb_tools.specs.Depend.{targets_by};
 ghost use Rattle.cweb_tools.specs.declared.rule_targets.Targets.{Targets};
-ghost use Rattle.cweb_tools.specs.inner.Does.{EndsInBoth};
-ghost use Rattle.cweb_tools.specs.inner.Tangle.{fault_count, plan_made, status_by};
-ghost use Rattle.cweb_tools.specs.inner.Web.{faults_of, files_of, web_in};
+ghost use Rattle.cweb_tools.specs.inner.Tangle.{fault_count, plan_made, status_by, faults_of};
+ghost use Rattle.cweb_tools.specs.inner.Tangle.{files_of, web_in};
 
 use crate::depfile::depfile;
 use crate::rule_targets::Targets;

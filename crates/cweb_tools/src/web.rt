@@ -1,40 +1,18 @@
-// A scanned web and its numbers.
+// A scanned web.
 ghost use Rattle.std.specs.Prelude.{◌≡◌, ◌<◌, ◌+◌, ◌^◌, ◌==◌, if◌then◌else◌, length};
 ghost use Rattle.std.specs.List.{flat_map};
 ghost use Rattle.cweb_lines.specs.surface.MergerCalls.{so_far};
-ghost use Rattle.cweb_scan.specs.surface.Scan.{IsScanBelow};
-ghost use Rattle.cweb_scan.specs.surface.ScannedModel.{scanned_model};
+ghost use Rattle.cweb_scan.specs.surface.Scan.{IsScanBelow, scanned_model};
 ghost use Rattle.cweb_files.specs.surface.Writes.{Wrote};
 ghost use Rattle.cweb_log.specs.Items.{line};
-ghost use Rattle.cweb_tools.specs.inner.Tangle.{fault_count};
+ghost use Rattle.cweb_tools.specs.inner.Tangle.{fault_count, IsKnown, faults_of, files_of};
+ghost use Rattle.cweb_tools.specs.inner.Tangle.{said_faults};
 ghost use Rattle.cweb_tools.specs.inner.Does.{DoesInLog, log_ending};
-ghost use Rattle.cweb_tools.specs.Tangle.{numbers_of};
-ghost use Rattle.cweb_tools.specs.inner.Web.{IsKnown, counted, faults_of, files_of, said_faults};
 
 use cweb_lines::{FileNames, Merger, Shelf, Sink, SinkFault, SourceFault};
 use cweb_log::{LogText, write_log};
 use cweb_scan::Scanned;
 use cweb_store::{Parts, Store};
-
-/// The numbers of sections, names and macros of a web.
-#[derive(Clone, Copy)]
-pub(crate) struct Numbers {
-    pub(crate) sections: u32,
-    pub(crate) names: u32,
-    pub(crate) macros: u32,
-}
-
-impl Numbers {
-    pub(crate) fn of(scanned: &Scanned) -> Numbers
-        ensures { counted result ≡ numbers_of (scanned_model scanned.now) }
-    {
-        Numbers {
-            sections: scanned.sections,
-            names: scanned.store.names(),
-            macros: count_parts(scanned.store.macros()),
-        }
-    }
-}
 
 /// A scanned web: the opened files, the faults of web and change file, and the result of the scan.
 #[derive(Clone, Copy)]
@@ -78,7 +56,8 @@ impl<'a> Web<'a> {
     }
 }
 
-fn count_parts(mut parts: Parts<'_>) -> u32
+/// The number of parts that are left.
+pub(crate) fn count_parts(mut parts: Parts<'_>) -> u32
     requires { length parts < 2 ^ 32 }
     ensures { result ≡ length parts.entry }
 {

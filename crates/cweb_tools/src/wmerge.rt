@@ -1,23 +1,19 @@
 // A run of `wmerge`.
-ghost use Rattle.std.specs.Prelude.{◌≡◌, ◌≢◌, ◌<◌, ◌≤◌, ◌+◌, ◌^◌, length, map, All, None, Some};
+ghost use Rattle.std.specs.Prelude.{◌≡◌, ◌<◌, ◌+◌, ◌^◌, map, None, Some};
 ghost use Rattle.std.specs.Option.{option_copied};
 ghost use Rattle.cweb_input.specs.surface.OpenedFileNames as spec;
-ghost use Rattle.cweb_input.specs.surface.OpenSources.{files_named};
 ghost use Rattle.cweb_lines.specs.surface.MergerCalls.{stop_in};
 ghost use Rattle.cweb_log.specs.Items.{source_item};
-ghost use Rattle.cweb_log.specs.inner.Log.{start_subject, subject};
+ghost use Rattle.cweb_log.specs.inner.LogText.{merge_word_names};
 ghost use Rattle.cweb_log.specs.DeviceModels.{CountsFit, contents_of, devices};
 ghost use Rattle.cweb_log.specs.CommandLine.{web_names_by};
-ghost use Rattle.cweb_log.specs.inner.Words.{merge_word_names};
-ghost use Rattle.cweb_tools.specs.inner.Begun.{MergesBegun};
+ghost use Rattle.cweb_tools.specs.inner.Does.{MergesBegun, EndsMerge, merge_course, EndsInLog};
 ghost use Rattle.cweb_tools.specs.Acts.{acts_status, says};
-ghost use Rattle.cweb_tools.specs.Course.{change_name, folder_of, world_of};
-ghost use Rattle.cweb_tools.specs.inner.Course.{EndsMerge, merge_course};
-ghost use Rattle.cweb_tools.specs.inner.Does.{EndsInLog};
+ghost use Rattle.cweb_tools.specs.Course.{world_of};
 ghost use Rattle.cweb_tools.specs.MergeActs.{MergePromises, MergesFreely};
 
-use crate::subjects::{folder, subject};
-use cweb_lines::{FileNames, Merger, Shelf, Sink, SourceFault, Stop, write_merged_in_chunks};
+use crate::subjects::{folder, start_subject, subject};
+use cweb_lines::{FileNames, Merger, Shelf, Sink, SourceFault, write_merged_in_chunks};
 use cweb_log::{LogText, MergeWords, log_stop, write_log};
 use std::alloc::Global;
 
@@ -74,17 +70,20 @@ fn merge_web<S: Shelf, W: Sink, L: Sink>(
         EndsMerge names (merge_course world names) before
         (devices S.Shelf W.Sink L.Sink shelf.new out.new log.new) result }
 {
-    let started = Merger::start(
+    match Merger::start(
         alloc,
         shelf,
         args.web.as_str(),
         args.second(),
         args.change(),
         folder(inputs),
-    );
-    match started {
+    ) {
         Ok(mut merger) => merge_begun(&mut merger, shelf, out, log),
-        Err(stop) => log_stop(log, stop, start_subject(args, stop)),
+        Err(stop) => log_stop(
+            log,
+            stop,
+            start_subject(args.web.as_str(), args.change(), stop),
+        ),
     }
 }
 
@@ -104,18 +103,6 @@ fn merge_begun<S: Shelf, W: Sink, L: Sink>(
     match write_merged_in_chunks(merger, shelf, out, CHUNK_SIZE) {
         Ok(()) => log_faults(log, merger.names(), merger.faults()),
         Err(stop) => log_stop(log, stop, subject(merger.names(), stop)),
-    }
-}
-
-/// The name that the line of a stop at the start of a merge ends in.
-fn start_subject(args: &MergeWords, stop: Stop) -> &str
-    ensures { let names = merge_word_names args.now in
-        result.now ≡ start_subject names.web (change_name names.change) stop }
-{
-    match stop {
-        Stop::WebNotOpened => args.web.as_str(),
-        Stop::ChangeNotOpened => args.change().unwrap_or(""),
-        _ => "",
     }
 }
 

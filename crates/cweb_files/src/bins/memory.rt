@@ -18,6 +18,7 @@ pub struct BinFile {
 }
 
 /// Files in memory in commit order, at most one draft, and whether the last `start_file` was refused.
+#[derive(Drop)]
 pub struct MemoryBins {
     alloc: Global,
     files: Vec<BinFile>,
@@ -28,23 +29,10 @@ pub struct MemoryBins {
     ghost placed: { IsTrue (is_some draft) → vec_len files < vec_capacity files },
 }
 
-// One call frees it, not one per field.
-impl Drop for MemoryBins {
-    fn drop(self) {
-        let MemoryBins {
-            alloc: _,
-            files: _,
-            draft: _,
-            refused: _,
-            room: _,
-            failed: _,
-        } = self;
-    }
-}
-
 impl MemoryBins {
-    ghost use Rattle.cweb_files.specs.surface.MemoryBins.{bins_failed, new_draft_room, committed_files};
-    ghost use Rattle.cweb_files.specs.surface.MemoryBins.{has_draft, list_room, last_refusal};
+    ghost use Rattle.cweb_files.specs.surface.MemoryDevices.{bins_failed, new_draft_room};
+    ghost use Rattle.cweb_files.specs.surface.MemoryDevices.{committed_files, has_draft, list_room};
+    ghost use Rattle.cweb_files.specs.surface.MemoryDevices.{last_refusal};
 
     /// No file yet, with room for `files` entries. Each new draft gets a buffer of `bytes` bytes.
     pub fn with_room(alloc: Global, files: usize, bytes: usize) -> Result<Self, AllocError>
@@ -94,9 +82,9 @@ fn remove_named(files: &mut Vec<BinFile>, name: &str)
 }
 
 impl Sink for MemoryBins {
-    ghost use Rattle.cweb_files.specs.surface.MemoryBins.{KeepsFiles, KeepsDraftName, beside_draft};
-    ghost use Rattle.cweb_files.specs.surface.MemoryBins.{bins_failed, bins_model, draft_bytes};
-    ghost use Rattle.cweb_files.specs.surface.MemoryBins.{draft_room, has_draft};
+    ghost use Rattle.cweb_files.specs.surface.MemoryDevices.{KeepsFiles, KeepsDraftName};
+    ghost use Rattle.cweb_files.specs.surface.MemoryDevices.{beside_draft, bins_failed, bins_model};
+    ghost use Rattle.cweb_files.specs.surface.MemoryDevices.{draft_bytes, draft_room, has_draft};
 
     ghost model = { bins_model };
 
@@ -134,10 +122,10 @@ impl Sink for MemoryBins {
 }
 
 impl Bins for MemoryBins {
-    ghost use Rattle.cweb_files.specs.surface.MemoryBins.{KeepsFiles, bins_failed, bins_model};
-    ghost use Rattle.cweb_files.specs.surface.MemoryBins.{draft_room, files_with_draft};
-    ghost use Rattle.cweb_files.specs.surface.MemoryBins.{new_draft_room, committed_files, has_draft};
-    ghost use Rattle.cweb_files.specs.surface.MemoryBins.{list_room};
+    ghost use Rattle.cweb_files.specs.surface.MemoryDevices.{KeepsFiles, bins_failed, bins_model};
+    ghost use Rattle.cweb_files.specs.surface.MemoryDevices.{draft_room, files_with_draft};
+    ghost use Rattle.cweb_files.specs.surface.MemoryDevices.{new_draft_room, committed_files};
+    ghost use Rattle.cweb_files.specs.surface.MemoryDevices.{has_draft, list_room};
     ghost use Rattle.cweb_files.specs.Sinks.{changed, committed, failing, with_draft, without_draft};
     ghost use Rattle.cweb_files.specs.Bins.{refused};
 

@@ -1,22 +1,33 @@
 -- What calls that take lines promise.
-use Rattle.std.specs.Prelude.{◌≡◌, ◌≤◌, ◌<◌, ◌+◌, ℕ, List, length, Option, None, Some, Result, Ok, Err, IfOk, IfErr}
+use Rattle.std.specs.Prelude.{ℕ, List, Option, Result, ◌≡◌, ◌≤◌, ◌<◌, ◌+◌, length, None, Some, Ok, Err, IfOk, IfErr}
 use Rattle.std.specs.Prelude.{IfSome, OnSome, OnErr, ◌-◌, slice_set}
 use Rattle.cweb_files.specs.Shelves.{Observed, ShelfModel}
-use Rattle.cweb_input.specs.inner.OpenSources.{AreDeep, Counted, DepthAfter, NamesFiles, StaysBelow}
-use Rattle.cweb_input.specs.OpenSources.{TakenCountersModel}
-use Rattle.cweb_input.specs.surface.OpenSources.{StopsFor, StopsReading, matches_at, number_or_zero}
-use Rattle.cweb_input.specs.surface.OpenSources.{lines_at, source_depth}
-use Rattle.cweb_input.specs.inner.OpenSources.{files_up_to, line_number, maximum_of, line_number_at}
-use Rattle.cweb_input.specs.inner.OpenSources.{FirstStops, NeedsRead, TakesNextLine}
-use Rattle.cweb_input.specs.inner.ReaderNames.{KeepsReaderName, KeepsReaderNames}
-use Rattle.cweb_input.specs.surface.ReaderNames.{ReadsShelf}
-use Rattle.cweb_input.specs.surface.Counters.{counters_of}
-use Rattle.cweb_input.specs.surface.Lines.{IsOneLine}
 use Rattle.cweb_input.specs.declared.stop.Stop.{Stop}
+use Rattle.cweb_input.specs.declared.open_source.OpenSource.{OpenSource}
+use Rattle.cweb_input.specs.surface.OpenSources.{IsReaderNamed, AreReadersNamed, BlamesFile, name_of_file, StopsFor}
+use Rattle.cweb_input.specs.surface.OpenSources.{StopsReading, matches_at, number_or_zero, lines_at, source_depth}
+use Rattle.cweb_input.specs.surface.OpenSources.{ReadsShelf, counters_of}
+use Rattle.cweb_input.specs.inner.OpenSources.{AreDeep, Counted, DepthAfter, NamesFiles, StaysBelow, files_up_to}
+use Rattle.cweb_input.specs.inner.OpenSources.{line_number, maximum_of, line_number_at, FirstStops, NeedsRead}
+use Rattle.cweb_input.specs.inner.OpenSources.{TakesNextLine}
+use Rattle.cweb_input.specs.OpenSources.{TakenCountersModel}
+use Rattle.cweb_input.specs.surface.OpenedFileNames.{IsOneLine}
 use Rattle.cweb_input.specs.declared.counters.TakenCounters.{TakenCounters}
 use Rattle.cweb_input.specs.declared.open_source.LineAt.{LineAt}
-use Rattle.cweb_input.specs.declared.open_source.OpenSource.{OpenSource}
 use Rattle.cweb_input.specs.declared.open_source.stack.Stack.{Stack}
+
+-- The reader of a source is still opened under the name of its file, which a read fault blames.
+abbrev pub KeepsReaderName : {R A : Type 0} → ShelfModel R → ShelfModel R → Option (OpenSource R)
+    → Option (OpenSource R) → Result A Stop → Type 0
+KeepsReaderName old new slot slot' result = Observed old (λ seen. (names : List (List ℕ))
+    → IsReaderNamed seen.opened_as names slot
+    → IsReaderNamed seen.opened_as names slot' × BlamesFile (name_of_file names) old new result)
+
+abbrev pub KeepsReaderNames : {R A : Type 0} → ShelfModel R → ShelfModel R → List (Option (OpenSource R))
+    → List (Option (OpenSource R)) → Result A Stop → Type 0
+KeepsReaderNames old new texts texts' result = Observed old (λ seen. (names : List (List ℕ))
+    → AreReadersNamed seen.opened_as names texts
+    → AreReadersNamed seen.opened_as names texts' × BlamesFile (name_of_file names) old new result)
 
 -- The result is one counted line of an opened file, or a stop of reading that names one.
 pub record AnswersLine (files : ℕ) (before after : TakenCountersModel) (bytes : List ℕ)

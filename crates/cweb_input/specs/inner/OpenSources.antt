@@ -14,11 +14,10 @@ use Rattle.cweb_input.specs.declared.stop.Stop.{Stop}
 use Rattle.cweb_input.specs.declared.stop.Stop.TheVariants.{ReadFault, LineTooLong, Memory}
 use Rattle.cweb_input.specs.declared.open_source.LineAt.{LineAt}
 use Rattle.cweb_input.specs.declared.open_source.OpenSource.{OpenSource}
-use Rattle.cweb_input.specs.surface.Lines.{HasNoNewline}
-use Rattle.cweb_input.specs.surface.Source.{buffered}
-use Rattle.cweb_input.specs.surface.OpenSources.{number_or_zero, things_at, things_over, things_above}
-use Rattle.cweb_input.specs.OpenSources.{TakenCountersModel, RefusesLine}
+use Rattle.cweb_input.specs.surface.OpenedFileNames.{HasNoNewline}
+use Rattle.cweb_input.specs.surface.OpenSources.{buffered, number_or_zero, things_at, things_over, things_above}
 use Rattle.cweb_input.specs.surface.OpenSources.{files_named}
+use Rattle.cweb_input.specs.OpenSources.{TakenCountersModel, RefusesLine}
 
 unfoldable pub maximum_of : {R : Type 0} → (OpenSource R → ℕ) → List (Option (OpenSource R)) → ℕ
 maximum_of number [] = 0

@@ -1,16 +1,19 @@
--- What a source has left, and how taking a line changes that.
-use Rattle.std.specs.Prelude.{◌≡◌, ℕ, ◌<◌, List, [], ◌∷◌, ◌++◌, length, Bool, true, false, Result, Ok, Err}
-use Rattle.std.specs.Prelude.{IsErrOf}
+-- What a source has left, and how taking a line, then trimmed, changes that.
+use Rattle.std.specs.Prelude.{◌≡◌, ℕ, ◌<◌, List, [], ◌∷◌, ◌++◌, length, Bool, true, false, Result, Ok, Err, IsErrOf}
+use Rattle.std.specs.Prelude.{◌≢◌, ◌+◌, ◌≤◌, Option, None, Some}
 use Rattle.cweb_files.specs.Shelves.{Observed, ShelfModel, failed_read}
-use Rattle.cweb_input.specs.surface.Lines.{HasNoNewline}
+use Rattle.cweb_input.specs.surface.OpenedFileNames.{HasNoNewline}
 use Rattle.cweb_input.specs.declared.limits.TheConstants.{LINE_LENGTH}
 use Rattle.cweb_input.specs.declared.source.Source.{Source}
 use Rattle.cweb_input.specs.declared.source.LineFault.{LineFault}
 use Rattle.cweb_input.specs.declared.source.LineFault.TheVariants.{Read, TooLong, Memory}
 use Rattle.cweb_input.specs.declared.source.LineTermination.{LineTermination}
 use Rattle.cweb_input.specs.declared.source.LineTermination.TheVariants.{Ended, Last, Full}
-use Rattle.cweb_input.specs.surface.Source.{buffered}
+use Rattle.cweb_input.specs.surface.OpenSources.{buffered}
+use Rattle.cweb_input.specs.Lines.{trimmed}
+use Rattle.cweb_input.specs.inner.OpenSources.{newline_bytes}
 
+-- The bytes that a source has left: those in its buffer, then those of its reader.
 abbrev pub bytes_left : {R : Type 0} → (R → List ℕ) → Source R → List ℕ
 bytes_left left source = buffered source ++ left source.reader.value
 
@@ -50,3 +53,17 @@ pub record FailsInLine {R A : Type 0} (shelf : ShelfModel R) (source : Source R)
   pub needed : IsErrOf result Read → HasNoNewline (buffered source)
   pub too_long : Observed shelf (λ seen. IsErrOf result TooLong
       → IsLongerThan LINE_LENGTH (bytes_left seen.left source))
+
+-- A line is taken. `size` includes the newline, if it has one.
+pub record TakesTrimmedLine (old bytes : List ℕ) (size : ℕ) (new : List ℕ) : Type 0 where
+  pub taken : LineTermination
+  pub raw : List ℕ
+  pub some : taken ≢ Ended
+  pub takes : TakesRawLine old taken raw new
+  pub short : length raw ≤ LINE_LENGTH
+  pub bytes_are : bytes ≡ trimmed raw
+  pub size_is : size ≡ length raw + newline_bytes taken
+
+abbrev pub TakesTrimmedOrEnds : List ℕ → Option ℕ → List ℕ → List ℕ → Type 0
+TakesTrimmedOrEnds old None bytes new = (old ≡ []) × (new ≡ [])
+TakesTrimmedOrEnds old (Some size) bytes new = TakesTrimmedLine old bytes size new

@@ -4,7 +4,7 @@ ghost use Rattle.std.specs.Option.{option_copied};
 ghost use Rattle.cweb_input.specs.Include.{found_at, found_under, web_at, change_at};
 ghost use Rattle.cweb_files.specs.Shelves.{Observed};
 ghost use Rattle.cweb_input.specs.inner.Finding.{changes_found, FindsFile, IsChangeOpened};
-ghost use Rattle.cweb_input.specs.surface.Finding.{world_in};
+ghost use Rattle.cweb_input.specs.surface.OpenedFileNames.{world_in};
 
 use cweb_files::Shelf;
 use std::alloc::{AllocError, Global};

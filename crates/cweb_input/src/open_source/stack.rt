@@ -3,13 +3,11 @@ ghost use Rattle.std.specs.Prelude.{◌≡◌, ◌≤◌, ◌<◌, ◌+◌, ◌-
 ghost use Rattle.std.specs.Prelude.{IfErr, None, Some, slice_set, slice_index_or};
 ghost use Rattle.cweb_files.specs.Shelves.{Observed};
 ghost use Rattle.cweb_input.specs.inner.LineCalls.{ClosesAbove, ClosesTop, TakesFromStack};
-ghost use Rattle.cweb_input.specs.surface.Counters.{counters_of};
+ghost use Rattle.cweb_input.specs.surface.OpenSources.{counters_of, StopsFor};
 ghost use Rattle.cweb_input.specs.declared.limits.TheConstants.{OPEN_FILES};
-ghost use Rattle.cweb_input.specs.inner.OpenSources.{maximum_of, line_number, files_up_to};
-ghost use Rattle.cweb_input.specs.surface.OpenSources.{StopsFor};
-ghost use Rattle.cweb_input.specs.inner.OpenSources.{AreDeep, TakesTop, TakesAbove};
-ghost use Rattle.cweb_input.specs.inner.OpenSources.{NeedsRead, StopsTop, StopsAbove};
-ghost use Rattle.cweb_input.specs.inner.OpenSources.{StaysBelow, Pushes};
+ghost use Rattle.cweb_input.specs.inner.OpenSources.{maximum_of, line_number, files_up_to, AreDeep};
+ghost use Rattle.cweb_input.specs.inner.OpenSources.{TakesTop, TakesAbove, NeedsRead, StopsTop};
+ghost use Rattle.cweb_input.specs.inner.OpenSources.{StopsAbove, StaysBelow, Pushes};
 
 use crate::buffer_pool::BufferPool;
 use crate::counters::TakenCounters;
@@ -101,11 +99,7 @@ fn take_top<S: Shelf>(
         NeedsRead (slice_index_or stack.old.texts (stack.old.depth - 1) None) stop) }
 {
     let top = stack.depth - 1;
-    let taken = match take_from(shelf, &mut stack.texts[top], limits, line) {
-        Ok(taken) => taken,
-        Err(stop) => return Err(stop),
-    };
-    let Some(at) = taken else {
+    let Some(at) = take_from(shelf, &mut stack.texts[top], limits, line)? else {
         stack.close(top);
         stack.depth = top;
         return Ok(None);
@@ -140,11 +134,7 @@ pub fn take_above<S: Shelf>(
         × NeedsRead (slice_index_or stack.old.texts place None) stop) }
 {
     'texts: while stack.depth > low {
-        let taken = match take_top(shelf, stack, limits, line) {
-            Ok(taken) => taken,
-            Err(stop) => return Err(stop),
-        };
-        let Some(at) = taken else {
+        let Some(at) = take_top(shelf, stack, limits, line)? else {
             continue;
         };
         return Ok(Some(at));

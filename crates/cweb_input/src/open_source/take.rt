@@ -4,9 +4,9 @@ ghost use Rattle.std.specs.Prelude.{IfSome, OnSome, Some};
 ghost use Rattle.cweb_files.specs.Shelves.{Observed};
 ghost use Rattle.cweb_input.specs.inner.LineCalls.{TakesFromSlot};
 ghost use Rattle.cweb_input.specs.inner.Source.{bytes_left, FailsInLine, ReadsSource};
-ghost use Rattle.cweb_input.specs.inner.TrimmedLines.{TakesTrimmedOrEnds};
+ghost use Rattle.cweb_input.specs.inner.Source.{TakesTrimmedOrEnds};
 ghost use Rattle.cweb_input.specs.Lines.{trimmed};
-ghost use Rattle.cweb_input.specs.surface.Lines.{IsOneLine};
+ghost use Rattle.cweb_input.specs.surface.OpenedFileNames.{IsOneLine};
 ghost use Rattle.cweb_input.specs.Lines as spec;
 ghost use Rattle.cweb_input.specs.surface.OpenSources.{number_or_zero};
 ghost use Rattle.cweb_input.specs.inner.OpenSources.{line_number, DeepAt, NamesFile};
@@ -85,10 +85,7 @@ fn take_trimmed<S: Shelf>(
     ensures line { IfOk result (λ size. OnSome size (IsOneLine line.new.items)) }
     ensures gains { IfOk result (λ size. IfSome size (λ n. length line.new.items ≤ n)) }
 {
-    let taken = match next_line(shelf, source, line) {
-        Ok(taken) => taken,
-        Err(fault) => return Err(fault),
-    };
+    let taken = next_line(shelf, source, line)?;
     if let LineTermination::Ended = taken {
         return Ok(None);
     }
@@ -118,9 +115,7 @@ fn take_line<S: Shelf>(
     let Some(size) = taken else {
         return Ok(None);
     };
-    if let Err(stop) = limits.add(size) {
-        return Err(stop);
-    }
+    limits.add(size)?;
     text.line += 1;
     Ok(Some(LineAt {
         place: Place {

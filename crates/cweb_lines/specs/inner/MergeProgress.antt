@@ -1,10 +1,9 @@
--- How far a merge is: steps and turns.
-use Rattle.std.specs.Prelude.{◌≡◌, ◌<◌, ◌≤◌, ◌+◌, ◌*◌, ◌-◌, ℕ, length, List, [], ◌∷◌, Option}
+-- How far a merge is: steps, turns and output.
+use Rattle.std.specs.Prelude.{◌≡◌, ◌<◌, ◌≤◌, ◌+◌, ◌*◌, ◌-◌, ℕ, length, List, [], ◌∷◌, Option, ◌++◌}
 use Rattle.cweb_input.specs.Lines.{Line, SourceLine}
-use Rattle.cweb_input.specs.surface.Lines.{IsOneLine}
-use Rattle.cweb_lines.specs.Events.{Event, took}
-use Rattle.cweb_lines.specs.surface.Total.{merge}
-use Rattle.cweb_input.specs.surface.Finding.{world_in}
+use Rattle.cweb_input.specs.surface.OpenedFileNames.{IsOneLine, world_in}
+use Rattle.cweb_lines.specs.Events.{Event, took, written_lines}
+use Rattle.cweb_lines.specs.surface.Halting.{merge}
 use Rattle.cweb_lines.specs.inner.Stages.{weight_of}
 use Rattle.cweb_input.specs.inner.OpenSources.{raw_thing}
 use Rattle.cweb_lines.specs.declared.merge_state.MergeState.{MergeState}
@@ -12,8 +11,9 @@ use Rattle.cweb_lines.specs.declared.change.Stage.{Stage}
 use Rattle.cweb_input.specs.declared.open_source.LineAt.{LineAt}
 use Rattle.cweb_lines.specs.declared.step.Turn.{Turn}
 use Rattle.cweb_lines.specs.declared.step.Turn.TheVariants.{Emitted, On, Ended}
-use Rattle.cweb_lines.specs.surface.MergeProgress.{SoFar, EmitsLines}
-use Rattle.cweb_lines.specs.surface.MergeProgress.{state_of, things_of, NothingLeft}
+use Rattle.cweb_lines.specs.surface.MergeProgress.{SoFar, EmitsLines, state_of, things_of, NothingLeft}
+use Rattle.cweb_files.specs.Sinks.{FailsWithin, SinkModel, written}
+use Rattle.cweb_lines.specs.inner.Passing.{all_but_last}
 
 -- A line was taken, and then these lines are emitted.
 pub record EmitsAfterLine (source : SourceLine) (lines : List Line) (old new : SoFar)
@@ -69,6 +69,12 @@ TurnKnown files (Emitted place) = place.file.0 < files
 TurnKnown files On = Unit {0}
 TurnKnown files Ended = Unit {0}
 
--- The initial state of a merge with these files open.
-abbrev pub begun_with : List (List ℕ) → SoFar
-begun_with names = record { faults = []; names = names; count = record { lines = 0; bytes = 0 } }
+-- A write failed within the buffered lines. The next line is the one after them. If there are several, all but the last
+-- have fewer than `room` bytes.
+pub record FailsAmong (room : ℕ) (old new : SoFar) (all later : List Event) (before after : SinkModel) : Type 0 where
+  pub done : List Line
+  pub buffered : List Line
+  pub yields : EmitsLines (done ++ buffered) old new all later
+  pub fails : FailsWithin (written_lines buffered) (written (written_lines done) before) after
+  pub some : 0 < length buffered
+  pub within : 1 < length buffered → length (written_lines (all_but_last buffered)) < room

@@ -4,14 +4,14 @@ use Rattle.std.specs.Prelude.{slice_index_or, Option, None, Some, take}
 use Rattle.cweb_lines.specs.Change.{WaitingEntry}
 use Rattle.cweb_input.specs.Include.{is_include_line}
 use Rattle.cweb_input.specs.Lines.{Line, SourceLine, CutLine, numbered_lines, trimmed, Thing, raws}
-use Rattle.cweb_input.specs.surface.Lines.{HasNoNewline}
-use Rattle.cweb_lines.specs.Events.{Event, written_lines}
-use Rattle.cweb_lines.specs.surface.MergeProgress.{SoFar, EmitsLines, so_far_of, events_to_come, pending_of}
-use Rattle.cweb_input.specs.surface.ReaderNames.{AreReadersNamed, IsReaderNamed}
-use Rattle.cweb_lines.specs.surface.MergeReaderNames.{AreReadersKnown}
+use Rattle.cweb_input.specs.surface.OpenedFileNames.{HasNoNewline}
+use Rattle.cweb_lines.specs.Events.{written_lines}
+use Rattle.cweb_lines.specs.surface.MergeProgress.{EmitsLines, so_far_of, events_to_come, pending_of}
+use Rattle.cweb_input.specs.surface.OpenSources.{AreReadersNamed, IsReaderNamed, lines_at, matches_at, number_or_zero}
+use Rattle.cweb_input.specs.surface.OpenSources.{source_depth, things_above}
+use Rattle.cweb_lines.specs.surface.MergerCalls.{AreReadersKnown}
 use Rattle.cweb_lines.specs.inner.Stages.{IsSettled, begun_by, floor_of}
 use Rattle.cweb_input.specs.inner.OpenSources.{AreDeep, DeepAt, StaysBelow, files_up_to, maximum_of}
-use Rattle.cweb_input.specs.surface.OpenSources.{lines_at, matches_at, number_or_zero, source_depth, things_above}
 use Rattle.cweb_input.specs.declared.counters.TakenCounters.{TakenCounters}
 use Rattle.cweb_input.specs.declared.limits.TheConstants.{LINES, BYTES, LINE_LENGTH}
 use Rattle.cweb_lines.specs.declared.passing.stretch.Stretch.{Stretch}
@@ -167,15 +167,3 @@ pub record AppendsPassedLines {R : Type 0} (room : ℕ) (old new : MergeState R)
   pub names : new.names ≡ old.names
   pub counted : old.limits.lines ≤ new.limits.lines
   pub readers : (opened_as : R → List ℕ) → AreReadersKnown opened_as old → AreReadersKnown opened_as new
-
--- Some lines were written, and others are buffered: at least one. If there are several, all but the last have fewer
--- than `room` bytes.
-pub record BuffersLines (room : ℕ) (old new : SoFar) (all now : List Event) (Wrote : List ℕ → Type 0)
-    (buffer : List ℕ) : Type 0 where
-  pub done : List Line
-  pub buffered : List Line
-  pub yields : EmitsLines (done ++ buffered) old new all now
-  pub wrote : Wrote (written_lines done)
-  pub piece_is : buffer ≡ written_lines buffered
-  pub some : 0 < length buffered
-  pub within : 1 < length buffered → length (written_lines (all_but_last buffered)) < room

@@ -1,5 +1,5 @@
--- The stage of a merger.
-use Rattle.std.specs.Prelude.{◌≢◌, ℕ, ◌+◌, ◌&&◌, Bool, List, Option, None, Some, if◌then◌else◌}
+-- The stage of a merger, and the files that faults and stops name.
+use Rattle.std.specs.Prelude.{◌≢◌, ℕ, ◌+◌, ◌&&◌, Bool, List, Option, None, Some, if◌then◌else◌, max, [], ◌∷◌}
 use Rattle.std.specs.Str.{bytes_eq}
 use Rattle.cweb_files.specs.declared.place.Place.{Place}
 use Rattle.cweb_lines.specs.Change.{WaitingEntry}
@@ -7,6 +7,9 @@ use Rattle.cweb_input.specs.Include.{Found}
 use Rattle.cweb_lines.specs.declared.change.Stage.{Stage}
 use Rattle.cweb_lines.specs.declared.change.Stage.TheVariants.{Done, Seeking, Waiting, Changing}
 use Rattle.cweb_input.specs.declared.open_source.OpenSource.{OpenSource}
+use Rattle.cweb_input.specs.surface.OpenSources.{files_named}
+use Rattle.cweb_input.specs.declared.fault.SourceFault.{SourceFault}
+use Rattle.cweb_input.specs.declared.stop.Stop.{Stop}
 
 -- The number of sources that stay open.
 abbrev pub floor_of : Stage → ℕ
@@ -56,3 +59,12 @@ stage_for (Some text) = Seeking
 abbrev pub begun_stage : Option Found → Stage
 begun_stage None = Done
 begun_stage (Some found) = Seeking
+
+-- The least number of files that these faults imply.
+unfoldable pub files_of_faults : List SourceFault → ℕ
+files_of_faults [] = 0
+files_of_faults (fault ∷ faults) = max (fault.place.file.0 + 1) (files_of_faults faults)
+
+abbrev pub files_of_stop : Option Stop → ℕ
+files_of_stop None = 0
+files_of_stop (Some stop) = files_named stop

@@ -1,28 +1,50 @@
 -- What the calls of a step promise.
-use Rattle.std.specs.Prelude.{◌≡◌, ◌≤◌, ◌<◌, ◌+◌, ℕ, List, length, None, Option, Result, Ok, Err}
-use Rattle.std.specs.Prelude.{IfOk, IfErr, OnOk, OnErr}
-use Rattle.cweb_files.specs.Shelves.{Observed, ShelfContents, ShelfModel}
+use Rattle.std.specs.Prelude.{Result, ◌≡◌, ◌≤◌, ◌<◌, ◌+◌, ℕ, List, length, None, Option, Ok, Err, IfOk, IfErr, OnOk}
+use Rattle.std.specs.Prelude.{OnErr}
+use Rattle.cweb_files.specs.Shelves.{Observed, ShelfModel, ShelfContents}
+use Rattle.cweb_input.specs.surface.OpenedFileNames.{opened_file_names}
+use Rattle.cweb_input.specs.surface.OpenSources.{BlamesFile, name_of_file, counters_of, StopsReading, files_named}
+use Rattle.cweb_input.specs.surface.OpenSources.{ReadsShelf}
+use Rattle.cweb_lines.specs.declared.merge_state.MergeState.{MergeState}
+use Rattle.cweb_input.specs.declared.stop.Stop.{Stop}
+use Rattle.cweb_lines.specs.surface.MergerCalls.{AreReadersKnown, StopsThere}
 use Rattle.cweb_input.specs.inner.LineCalls.{AnswersLine}
 use Rattle.cweb_input.specs.Lines.{Line, SourceLine}
-use Rattle.cweb_input.specs.surface.Counters.{counters_of}
-use Rattle.cweb_input.specs.surface.OpenSources.{StopsReading, files_named}
-use Rattle.cweb_input.specs.surface.ReaderNames.{ReadsShelf}
-use Rattle.cweb_input.specs.surface.OpenedFileNames.{opened_file_names}
 use Rattle.cweb_lines.specs.Events.{Event}
 use Rattle.cweb_lines.specs.inner.MergeProgress.{TurnCounts, TurnEnds, TurnGains, TurnKnown, TurnLine, turns_left}
 use Rattle.cweb_lines.specs.inner.MergeProgress.{EmitsAfterLine, events_after_line, turn_lines}
-use Rattle.cweb_lines.specs.inner.MergeReaderNames.{KeepsReaders}
 use Rattle.cweb_lines.specs.inner.Stages.{IsSettled, begun_by}
-use Rattle.cweb_lines.specs.inner.Steps.{OnlyTakes}
 use Rattle.cweb_lines.specs.surface.MergeProgress.{EmitsLines, KeepsReported, events_to_come, pending_of, so_far_of}
-use Rattle.cweb_lines.specs.surface.MergeReaderNames.{AreReadersKnown}
-use Rattle.cweb_lines.specs.surface.MergerCalls.{StopsThere}
 use Rattle.cweb_lines.specs.declared.change.old_side.Replaced.{Replaced}
-use Rattle.cweb_lines.specs.declared.merge_state.MergeState.{MergeState}
 use Rattle.cweb_lines.specs.declared.step.Turn.{Turn}
 use Rattle.cweb_input.specs.declared.open_source.LineAt.{LineAt}
-use Rattle.cweb_input.specs.declared.stop.Stop.{Stop}
 use Rattle.cweb_input.specs.declared.stop.Stop.TheVariants.{Memory}
+
+-- Only the faults change.
+pub record OnlyReports {R : Type 0} (old new : MergeState R) : Type 0 where
+  pub inputs : new.inputs ≡ old.inputs
+  pub stack : new.stack ≡ old.stack
+  pub change : new.change ≡ old.change
+  pub stage : new.stage ≡ old.stage
+  pub first : new.first ≡ old.first
+  pub limits : new.limits ≡ old.limits
+  pub names : new.names ≡ old.names
+  pub stopped : new.stopped ≡ old.stopped
+
+-- Only the sources and counters change.
+pub record OnlyTakes {R : Type 0} (old new : MergeState R) : Type 0 where
+  pub inputs : new.inputs ≡ old.inputs
+  pub stage : new.stage ≡ old.stage
+  pub first : new.first ≡ old.first
+  pub faults : new.faults ≡ old.faults
+  pub names : new.names ≡ old.names
+  pub stopped : new.stopped ≡ old.stopped
+
+-- Each reader is still opened under the name of its file, which a read fault blames.
+abbrev pub KeepsReaders : {R A : Type 0} → ShelfModel R → ShelfModel R → MergeState R → MergeState R → Result A Stop
+    → Type 0
+KeepsReaders old new run run' result = Observed old (λ seen. AreReadersKnown seen.opened_as run
+    → AreReadersKnown seen.opened_as run' × BlamesFile (name_of_file (opened_file_names run'.names)) old new result)
 
 -- All events of a merger's state to come, by the contents of the shelf and what the readers have left.
 abbrev pub coming : {R : Type 0} → ShelfContents R → MergeState R → List Event

@@ -1,13 +1,13 @@
--- The outcome of a merge for an author.
-use Rattle.std.specs.Prelude.{ℕ, ◌+◌, true, List, [], ◌∷◌, ◌++◌, Option, None}
+-- Every merge has one result. Its outcome for an author.
+use Rattle.std.specs.Prelude.{ℕ, ◌+◌, true, List, [], ◌∷◌, ◌++◌, Option, None, ◌≡◌}
 use Rattle.cweb_files.specs.declared.place.Place.{Place}
 use Rattle.cweb_input.specs.Lines.{Line, SourceLine, raws}
 use Rattle.cweb_input.specs.laws.Lines.{lines}
 use Rattle.cweb_input.specs.Include.{World}
 use Rattle.cweb_lines.specs.Change.{at_place}
 use Rattle.cweb_lines.specs.Events.{Event, emitted_lines, reported_faults, openings}
-use Rattle.cweb_lines.specs.Merge.{started}
-use Rattle.cweb_lines.specs.surface.Total.{merge}
+use Rattle.cweb_lines.specs.Merge.{started, MergeStateModel, Yields}
+use Rattle.cweb_lines.specs.surface.Halting.{merge}
 use Rattle.cweb_input.specs.declared.fault.SourceFault.{SourceFault}
 use Rattle.cweb_input.specs.declared.fault.SourceKind.{SourceKind}
 
@@ -62,3 +62,12 @@ outcome_of_lines world depth files lines =
       files =
           files;
     }))
+
+-- Some number of steps is enough, and each one that is enough yields the same events.
+pub record IsTheAnswer (world : World) (s : MergeStateModel) : Type 0 where
+  pub events : List Event
+  pub yields : Yields world s events
+  pub only : (others : List Event) → Yields world s others → others ≡ events
+
+abbrev pub HasOneAnswer : Type 0
+HasOneAnswer = (world : World) (s : MergeStateModel) → IsTheAnswer world s

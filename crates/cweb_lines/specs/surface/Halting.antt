@@ -14,9 +14,8 @@ use Rattle.cweb_lines.specs.declared.change.code.Code.{Code}
 use Rattle.cweb_lines.specs.declared.change.code.Code.TheVariants.{OldSide as old_side, NewSide as new_side}
 use Rattle.cweb_lines.specs.declared.change.code.Code.TheVariants.{EndSide as end_side}
 use Rattle.cweb_lines.specs.Events.{Event}
-use Rattle.cweb_lines.specs.Merge.{MergeStateModel, new_at}
-use Rattle.cweb_lines.specs.Merge.{new_lines, after_old, Next, obeyed, open_include, included, plain}
-use Rattle.cweb_lines.specs.Merge.{at_entry, at_raw, past, step, onto, step_then_run, run_steps}
+use Rattle.cweb_lines.specs.Merge.{MergeStateModel, new_at, new_lines, after_old, Next, obeyed, open_include, included}
+use Rattle.cweb_lines.specs.Merge.{plain, at_entry, at_raw, past, step, onto, step_then_run, run_steps}
 
 -- A number of steps that is enough, and the events.
 pub record Halts (world : World) (s : MergeStateModel) : Type 0 where
@@ -199,3 +198,7 @@ halts_below world (suc most) s less = all_good world most (halts_below world mos
 -- Every state halts.
 pub halts : (world : World) (s : MergeStateModel) → Halts world s
 halts world s = halts_below world (suc (left s.pending s.change)) s (omega arith)
+
+-- All events from a state on.
+unfoldable pub merge : World → MergeStateModel → List Event
+merge world s = (halts world s).events

@@ -1,25 +1,51 @@
--- How far a merger is, and why it stops.
-use Rattle.std.specs.Prelude.{◌≡◌, ◌+◌, ℕ, length, List, ◌∷◌, ◌++◌, [], Option}
-use Rattle.cweb_input.specs.Lines.{Line, SourceLine, Thing}
-use Rattle.cweb_lines.specs.Events.{Event, took, fault}
-use Rattle.cweb_lines.specs.Merge.{MergeStateModel}
-use Rattle.cweb_lines.specs.Events.{emitted_lines, reported_faults, openings, taken_lines, size_of_lines}
-use Rattle.cweb_lines.specs.Events.{AreShort}
+-- How far a merger is, what is to come at its stage, and why it stops.
+use Rattle.std.specs.Prelude.{ℕ, List, [], ◌∷◌, ◌++◌, Option, None, Some, ◌≡◌, ◌+◌, length}
+use Rattle.cweb_lines.specs.Change.{WaitingEntry}
+use Rattle.cweb_input.specs.Lines.{SourceLine, Thing, seek, Line}
+use Rattle.cweb_lines.specs.Merge.{new_lines, MergeStateModel}
+use Rattle.cweb_input.specs.surface.OpenSources.{things_over, things_above, counters_of, lines_at}
+use Rattle.cweb_input.specs.declared.open_source.stack.Stack.{Stack}
+use Rattle.cweb_lines.specs.declared.change.Change.{Change}
+use Rattle.cweb_lines.specs.declared.change.Stage.{Stage}
+use Rattle.cweb_lines.specs.declared.change.Stage.TheVariants.{Done, Seeking, Waiting, Changing}
+use Rattle.cweb_lines.specs.Events.{Event, took, fault, emitted_lines, reported_faults, openings, taken_lines}
+use Rattle.cweb_lines.specs.Events.{size_of_lines, AreShort}
 use Rattle.cweb_input.specs.OpenSources.{TakenCountersModel, RefusesLine}
 use Rattle.cweb_input.specs.declared.fault.SourceFault.{SourceFault}
 use Rattle.cweb_input.specs.declared.fault.SourceKind.{SourceKind}
 use Rattle.cweb_input.specs.declared.fault.SourceKind.TheVariants.{NoOldLines, EndedBeforeY, EndedBeforeZ, NoMatch}
 use Rattle.cweb_input.specs.declared.stop.Stop.{Stop}
-use Rattle.cweb_lines.specs.Change.{WaitingEntry}
-use Rattle.cweb_lines.specs.surface.Total.{merge}
-use Rattle.cweb_input.specs.surface.Counters.{counters_of}
-use Rattle.cweb_input.specs.surface.Finding.{world_in}
-use Rattle.cweb_input.specs.surface.OpenedFileNames.{opened_file_names}
-use Rattle.cweb_lines.specs.surface.Stages.{pending_in, change_in, things_in}
-use Rattle.cweb_input.specs.surface.OpenSources.{lines_at}
+use Rattle.cweb_lines.specs.surface.Halting.{merge}
+use Rattle.cweb_input.specs.surface.OpenedFileNames.{world_in, opened_file_names}
 use Rattle.cweb_lines.specs.declared.merge_state.MergeState.{MergeState}
-use Rattle.cweb_lines.specs.declared.change.Stage.TheVariants.{Done}
 use Rattle.cweb_input.specs.declared.stop.Stop.TheVariants.{ReadFault, LineTooLong, TooMuchText, Memory}
+
+-- The entry that waits, with its first old line.
+abbrev pub pending_in : Stage → List ℕ → Option WaitingEntry
+pending_in Done first = None
+pending_in Seeking first = None
+pending_in (Waiting begin) first = Some (record { begin = begin; first = first })
+pending_in (Changing change) first = None
+
+-- The lines of the change file after the entry whose new lines are taken.
+abbrev pub change_in : Stage → List SourceLine → List SourceLine
+change_in Done lines = []
+change_in Seeking lines = lines
+change_in (Waiting begin) lines = lines
+change_in (Changing change) lines = (new_lines change.depth change.begin lines).rest
+
+-- The rest of the new side, the search for the next entry, and the sources below the change.
+abbrev pub things_below : {R : Type 0} → (R → List ℕ) → Change → List SourceLine → Stack R → List Thing
+things_below left change lines stack = (new_lines change.depth change.begin lines).things
+    ++ seek ∷ things_over left 0 change.below stack.texts []
+
+-- All things to come. `lines` are the remaining lines of the change file.
+abbrev pub things_in : {R : Type 0} → (R → List ℕ) → Stage → List SourceLine → Stack R → List Thing
+things_in left Done lines stack = things_above left 0 stack []
+things_in left Seeking lines stack = seek ∷ things_above left 0 stack []
+things_in left (Waiting begin) lines stack = things_above left 0 stack []
+things_in left (Changing change) lines stack = things_above left change.below stack
+    (things_below left change lines stack)
 
 -- What was reported and taken so far.
 pub record SoFar : Type 0 where

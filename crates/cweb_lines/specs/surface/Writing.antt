@@ -10,8 +10,7 @@ use Rattle.cweb_input.specs.Lines.{Line}
 use Rattle.cweb_lines.specs.Events.{Event, emitted_lines, written_lines}
 use Rattle.cweb_lines.specs.surface.MergeProgress.{SoFar, EmitsLines, StopsAfterLines}
 use Rattle.cweb_lines.specs.surface.MergeProgress.{ReadFailsAfterLines, ReportsPrefix}
-use Rattle.cweb_input.specs.surface.OpenSources.{files_named}
-use Rattle.cweb_input.specs.surface.ReaderNames.{ReadsShelf}
+use Rattle.cweb_input.specs.surface.OpenSources.{files_named, ReadsShelf}
 use Rattle.cweb_lines.specs.surface.MergerCalls.{Grows, HasEnded, KnowsReaders, StaysKnown, lines_to_come, so_far}
 use Rattle.cweb_lines.specs.surface.MergerCalls.{stop_in, to_come}
 use Rattle.cweb_lines.specs.declared.merger.Merger.{Merger}

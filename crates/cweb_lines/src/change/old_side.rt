@@ -3,17 +3,16 @@ ghost use Rattle.cweb_files.specs.Shelves.{Observed};
 ghost use Rattle.std.specs.Prelude.{◌≡◌, ◌≤◌, ◌<◌, ◌+◌, ◌^◌, ◌++◌, [], length, IfOk, IfErr};
 ghost use Rattle.std.specs.Prelude.{OnOk, OnErr};
 ghost use Rattle.cweb_lines.specs.inner.StepCalls.{GoesOn, Reads, TakesAway, outcome};
+ghost use Rattle.cweb_lines.specs.inner.StepCalls.{OnlyTakes, OnlyReports};
 ghost use Rattle.cweb_lines.specs.Merge.{change_events, closing_faults, fault_if};
-ghost use Rattle.cweb_input.specs.surface.Counters.{counters_of};
+ghost use Rattle.cweb_input.specs.surface.OpenSources.{counters_of, StopsFor, things_above};
 ghost use Rattle.cweb_lines.specs.surface.MergeProgress.{ReportsPrefix, change_lines, things_of, so_far_of};
 ghost use Rattle.cweb_input.specs.surface.OpenedFileNames.{opened_file_names};
-ghost use Rattle.cweb_lines.specs.inner.Replacing.{Compares, IsChanged, IsReplaced, old_side_of};
-ghost use Rattle.cweb_lines.specs.inner.Replacing.{ReportsFaultPrefix, StopsOldSide};
+ghost use Rattle.cweb_lines.specs.inner.ChangeProgress.{Compares, IsChanged, IsReplaced};
+ghost use Rattle.cweb_lines.specs.inner.ChangeProgress.{old_side_of, ReportsFaultPrefix};
+ghost use Rattle.cweb_lines.specs.inner.ChangeProgress.{StopsOldSide};
 ghost use Rattle.cweb_lines.specs.inner.Stages.{floor_of};
-ghost use Rattle.cweb_input.specs.surface.OpenSources.{StopsFor};
 ghost use Rattle.cweb_input.specs.inner.OpenSources.{TopStops};
-ghost use Rattle.cweb_input.specs.surface.OpenSources.{things_above};
-ghost use Rattle.cweb_lines.specs.inner.Steps.{OnlyTakes, OnlyReports};
 
 use crate::change::code::{Code, change_code};
 use crate::change::{Change, Stage};
@@ -57,11 +56,7 @@ fn compare<S: Shelf>(
     ensures only { OnlyTakes run.old run.new }
     ensures change { run.new.change ≡ run.old.change }
 {
-    let taken = match take_raw(shelf, run, line) {
-        Ok(taken) => taken,
-        Err(stop) => return Err(stop),
-    };
-    let Some(_) = taken else {
+    let Some(_) = take_raw(shelf, run, line)? else {
         return Ok(Replaced {
             ran_out: true,
             ..so_far
@@ -105,11 +100,7 @@ fn replace<S: Shelf>(
         ended: false,
     };
     'lines: loop {
-        let taken = match take_change(shelf, run, line) {
-            Ok(taken) => taken,
-            Err(stop) => return Err(stop),
-        };
-        let Some(at) = taken else {
+        let Some(at) = take_change(shelf, run, line)? else {
             return Ok(Replaced {
                 ended: true,
                 ..so_far
@@ -118,18 +109,13 @@ fn replace<S: Shelf>(
         match change_code(line) {
             None => {
                 swap(&mut run.first, line);
-                so_far = match compare(shelf, run, line, so_far) {
-                    Ok(replaced) => replaced,
-                    Err(stop) => return Err(stop),
-                };
+                so_far = compare(shelf, run, line, so_far)?;
             }
             Some(code) => {
                 if code == Code::NewSide {
                     return Ok(so_far);
                 }
-                if let Err(stop) = run.report(SourceKind::WantsY, at.place, 0) {
-                    return Err(stop);
-                }
+                run.report(SourceKind::WantsY, at.place, 0)?;
             }
         }
     }
@@ -166,12 +152,8 @@ fn close<R: Drop>(run: &mut MergeState<R>, begin: Place, replaced: Replaced) -> 
     ensures memory { IfErr result (λ stop. stop ≡ Stop.Memory) }
     ensures only { OnlyReports run.old run.new }
 {
-    if let Err(stop) = report_if(run, replaced.ended, SourceKind::EndedBeforeY, begin, 0) {
-        return Err(stop);
-    }
-    if let Err(stop) = report_if(run, replaced.ran_out, SourceKind::WebEnded, begin, 0) {
-        return Err(stop);
-    }
+    report_if(run, replaced.ended, SourceKind::EndedBeforeY, begin, 0)?;
+    report_if(run, replaced.ran_out, SourceKind::WebEnded, begin, 0)?;
     let differ = replaced.unequal > 0;
     report_if(run, differ, SourceKind::Unequal, begin, replaced.unequal)
 }
@@ -202,13 +184,8 @@ pub fn begin_change<S: Shelf>(
         (change_events begin (old_side_of seen.left run.old)))) }
     ensures goes { GoesOn run.old run.new result }
 {
-    let replaced = match replace(shelf, run, line) {
-        Ok(replaced) => replaced,
-        Err(stop) => return Err(stop),
-    };
-    if let Err(stop) = close(run, begin, replaced) {
-        return Err(stop);
-    }
+    let replaced = replace(shelf, run, line)?;
+    close(run, begin, replaced)?;
     run.stage = if replaced.ended {
         Stage::Done
     } else {

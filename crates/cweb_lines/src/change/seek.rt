@@ -2,15 +2,14 @@
 ghost use Rattle.cweb_files.specs.Shelves.{Observed};
 ghost use Rattle.std.specs.Prelude.{◌≡◌, ◌<◌, ◌+◌, ◌^◌, ◌++◌, ◌∷◌, [], List, length, IfOk};
 ghost use Rattle.std.specs.Prelude.{IfErr, OnOk, OnErr, None, Some};
-ghost use Rattle.cweb_lines.specs.inner.StepCalls.{OnlySeeks, Reads, outcome};
+ghost use Rattle.cweb_lines.specs.inner.StepCalls.{OnlySeeks, Reads, outcome, OnlyReports};
 ghost use Rattle.cweb_lines.specs.Change.{sought};
 ghost use Rattle.cweb_input.specs.Lines.{SourceLine};
 ghost use Rattle.cweb_lines.specs.surface.MergeProgress.{change_lines, so_far_of};
 ghost use Rattle.cweb_lines.specs.Events.{reported_faults};
 ghost use Rattle.cweb_input.specs.surface.OpenedFileNames.{opened_file_names};
-ghost use Rattle.cweb_lines.specs.inner.Seeking.{BegunKnown, LooksAt, LooksKnown, Searched};
-ghost use Rattle.cweb_lines.specs.inner.Seeking.{LooksInPart, begun_outside, faults_outside};
-ghost use Rattle.cweb_lines.specs.inner.Steps.{OnlyReports};
+ghost use Rattle.cweb_lines.specs.inner.ChangeProgress.{BegunKnown, LooksAt, LooksKnown, Searched};
+ghost use Rattle.cweb_lines.specs.inner.ChangeProgress.{LooksInPart, begun_outside, faults_outside};
 ghost use Rattle.cweb_lines.specs.surface.MergerCalls.{StopsThere};
 
 use crate::change::Stage;
@@ -48,9 +47,7 @@ fn pass<R: Drop>(
         None => Ok(None),
         Some(Code::OldSide) => Ok(Some(place)),
         Some(Code::NewSide) | Some(Code::EndSide) => {
-            if let Err(stop) = run.report(SourceKind::MissingX, place, 0) {
-                return Err(stop);
-            }
+            run.report(SourceKind::MissingX, place, 0)?;
             Ok(None)
         }
     }
@@ -83,13 +80,8 @@ fn look_after_x<R: Drop>(
     if code.is_none() {
         return Ok(Look::Entry(begin));
     }
-    if let Err(stop) = run.report(SourceKind::NoOldLines, begin, 0) {
-        return Err(stop);
-    }
-    match pass(run, code, place) {
-        Ok(next) => Ok(Look::On(next)),
-        Err(stop) => Err(stop),
-    }
+    run.report(SourceKind::NoOldLines, begin, 0)?;
+    Ok(Look::On(pass(run, code, place)?))
 }
 
 fn look_at<R: Drop>(
@@ -114,10 +106,7 @@ fn look_at<R: Drop>(
     if let Some(begin) = begin {
         return look_after_x(run, line, place, begin);
     }
-    match pass(run, change_code(line), place) {
-        Ok(next) => Ok(Look::On(next)),
-        Err(stop) => Err(stop),
-    }
+    Ok(Look::On(pass(run, change_code(line), place)?))
 }
 
 // Ends the search at the end of the change file.
@@ -136,9 +125,7 @@ fn end<R: Drop>(run: &mut MergeState<R>, begin: Option<Place>) -> Result<(), Sto
     ensures stopped { run.new.stopped ≡ run.old.stopped }
 {
     if let Some(place) = begin {
-        if let Err(stop) = run.report(SourceKind::NoOldLines, place, 0) {
-            return Err(stop);
-        }
+        run.report(SourceKind::NoOldLines, place, 0)?;
     }
     run.stage = Stage::Done;
     Ok(())
@@ -164,17 +151,10 @@ pub fn seek<S: Shelf>(
 {
     let mut begin: Option<Place> = None;
     'lines: loop {
-        let taken = match take_change(shelf, run, line) {
-            Ok(taken) => taken,
-            Err(stop) => return Err(stop),
-        };
-        let Some(at) = taken else {
+        let Some(at) = take_change(shelf, run, line)? else {
             return end(run, begin);
         };
-        let looked = match look_at(run, line, at.place, begin) {
-            Ok(looked) => looked,
-            Err(stop) => return Err(stop),
-        };
+        let looked = look_at(run, line, at.place, begin)?;
         match looked {
             Look::On(next) => begin = next,
             Look::Entry(place) => {

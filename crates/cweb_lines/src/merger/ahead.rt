@@ -2,7 +2,7 @@
 ghost use Rattle.std.specs.Prelude.{◌≡◌, ◌≤◌, ◌+◌, ℕ, List, [], IfSome, OnSome, None, Some};
 ghost use Rattle.cweb_lines.specs.inner.Ahead.{FitsLimits, IsAhead, LooksAhead, LooksAheadIn, TakesLines};
 ghost use Rattle.cweb_lines.specs.inner.Passing.{ComesNext, IsStretchOf};
-ghost use Rattle.cweb_lines.specs.surface.Stages.{pending_in};
+ghost use Rattle.cweb_lines.specs.surface.MergeProgress.{pending_in};
 ghost use Rattle.cweb_input.specs.declared.counters.TakenCounters.{TakenCounters};
 
 use crate::change::Stage;
@@ -33,12 +33,8 @@ impl<S: Shelf> Merger<S> {
         if let Some(_) = self.run.stopped {
             return None;
         }
-        let Some(stretch) = self.run.stretch(0) else {
-            return None;
-        };
-        let Some(line) = self.run.line_at(stretch) else {
-            return None;
-        };
+        let stretch = self.run.stretch(0)?;
+        let line = self.run.line_at(stretch)?;
         Some(Ahead { line, stretch })
     }
 
@@ -93,9 +89,7 @@ fn line_after<R: Drop>(
     if before.end >= text.source.lines_end {
         return None;
     }
-    let Some(next) = line_from(&text.source, before.end, stage, first, text.may_match) else {
-        return None;
-    };
+    let next = line_from(&text.source, before.end, stage, first, text.may_match)?;
     Some(Ahead {
         line: LineSpan {
             place: Place {

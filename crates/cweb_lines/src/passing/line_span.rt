@@ -1,6 +1,6 @@
 // Lines in the buffer.
 ghost use Rattle.std.specs.Prelude.{◌≡◌, ℕ, List};
-ghost use Rattle.cweb_lines.specs.inner.LineSpans.{IsSpanIn, span_bytes, line_span_at};
+ghost use Rattle.cweb_lines.specs.inner.Ahead.{IsSpanIn, span_bytes, line_span_at};
 ghost use Rattle.cweb_lines.specs.inner.Passing.{ComesNext, top_of};
 
 use crate::merge_state::MergeState;

@@ -2,9 +2,8 @@
 ghost use Rattle.std.specs.Prelude.{◌≡◌, ◌≤◌, ◌+◌, ◌-◌, ℕ, List, IfSome, OnSome};
 ghost use Rattle.cweb_lines.specs.inner.Ahead.{FitsLimits, FitsLimitsAt};
 ghost use Rattle.cweb_lines.specs.inner.Passing.{Reaches, IsStretchOf, ComesNext, HasRoomFor};
-ghost use Rattle.cweb_lines.specs.inner.Passing.{OnlyLastExceeds};
-ghost use Rattle.cweb_lines.specs.inner.Passing.{stretch_bytes, top_of};
-ghost use Rattle.cweb_lines.specs.surface.Stages.{pending_in};
+ghost use Rattle.cweb_lines.specs.inner.Passing.{OnlyLastExceeds, stretch_bytes, top_of};
+ghost use Rattle.cweb_lines.specs.surface.MergeProgress.{pending_in};
 ghost use Rattle.cweb_input.specs.declared.limits.TheConstants.{LINES};
 
 use crate::change::Stage;
@@ -56,9 +55,7 @@ pub(crate) fn line_from<R: Drop>(
     ensures one { IfSome result (λ s. s.lines ≡ 1) }
 {
     let pending = &source.buffer[start..source.end];
-    let Some(at) = newline_at(pending) else {
-        return None;
-    };
+    let at = newline_at(pending)?;
     if at > LINE_LENGTH {
         return None;
     }
@@ -94,10 +91,7 @@ fn stretch_from<R: Drop>(
     if source.start >= source.lines_end {
         return None;
     }
-    let Some(line) = line_from(source, source.start, stage, first, may_match) else {
-        return None;
-    };
-    let mut stretch = line;
+    let mut stretch = line_from(source, source.start, stage, first, may_match)?;
     'lines: while stretch.text + 1 == stretch.end
         && stretch.end < source.lines_end
         && stretch.end - source.start < room

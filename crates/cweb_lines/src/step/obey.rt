@@ -8,7 +8,7 @@ ghost use Rattle.cweb_lines.specs.surface.MergeProgress.{KeepsReported, so_far_o
 ghost use Rattle.cweb_input.specs.surface.OpenedFileNames.{opened_file_names};
 ghost use Rattle.cweb_input.specs.declared.limits.TheConstants.{OPEN_FILES};
 ghost use Rattle.cweb_input.specs.inner.OpenSources.{OpensSource, StaysBelow};
-ghost use Rattle.cweb_lines.specs.surface.MergeReaderNames.{AreReadersKnown};
+ghost use Rattle.cweb_lines.specs.surface.MergerCalls.{AreReadersKnown};
 
 use crate::merge_state::MergeState;
 use crate::step::Turn;
@@ -40,9 +40,7 @@ fn open<R: Drop>(run: &mut MergeState<R>, opening: Opening<R>, at: LineAt) -> Re
     let buffer = run.stack.buffers.take(run.alloc)?;
     let source = Source::with_buffer(run.alloc, reader, buffer)?;
     let file = FileId(run.names.count());
-    if let Err(stop) = run.names.push(name) {
-        return Err(stop);
-    }
+    run.names.push(name)?;
     run.stack.push(OpenSource {
         source,
         file,
@@ -96,8 +94,6 @@ pub fn emit_or_obey<S: Shelf>(
     if !is_include_line(line) {
         return Ok(Turn::Emitted(at.place));
     }
-    if let Err(stop) = obey(shelf, run, line, at) {
-        return Err(stop);
-    }
+    obey(shelf, run, line, at)?;
     Ok(Turn::On)
 }

@@ -3,15 +3,13 @@ ghost use Rattle.cweb_files.specs.Shelves.{Observed};
 ghost use Rattle.std.specs.Prelude.{◌≡◌, ◌<◌, ◌+◌, ◌^◌, ◌++◌, ◌∷◌, [], length, IsTrue, IfOk, IfErr};
 ghost use Rattle.std.specs.Prelude.{OnOk, OnErr};
 ghost use Rattle.cweb_input.specs.inner.LineCalls.{ClosesAbove};
-ghost use Rattle.cweb_input.specs.surface.Counters.{counters_of};
+ghost use Rattle.cweb_input.specs.surface.OpenSources.{counters_of, StopsFor};
 ghost use Rattle.cweb_lines.specs.surface.MergeProgress.{NothingLeft, change_lines};
 ghost use Rattle.cweb_input.specs.surface.OpenedFileNames.{opened_file_names};
 ghost use Rattle.cweb_lines.specs.inner.Stages.{floor_of};
-ghost use Rattle.cweb_input.specs.surface.OpenSources.{StopsFor};
+ghost use Rattle.cweb_lines.specs.inner.StepCalls.{OnlyReports, TakesLine};
 ghost use Rattle.cweb_input.specs.inner.OpenSources.{TakesNextLine, TakesAbove};
 ghost use Rattle.cweb_input.specs.inner.OpenSources.{FirstStops, StopsAbove};
-ghost use Rattle.cweb_lines.specs.inner.Steps.{OnlyReports};
-ghost use Rattle.cweb_lines.specs.inner.StepCalls.{TakesLine};
 
 use crate::change::Stage;
 use crate::merge_state::MergeState;

@@ -1,8 +1,7 @@
 // One step of a merger.
 ghost use Rattle.std.specs.Prelude.{◌≡◌, ◌<◌, ◌+◌, ◌^◌, Ok};
-ghost use Rattle.cweb_lines.specs.surface.MergeProgress.{NothingLeft};
+ghost use Rattle.cweb_lines.specs.surface.MergeProgress.{NothingLeft, pending_in};
 ghost use Rattle.cweb_lines.specs.inner.Stages.{IsSettled, begun_by, floor_of};
-ghost use Rattle.cweb_lines.specs.surface.Stages.{pending_in};
 ghost use Rattle.cweb_lines.specs.inner.StepCalls.{TakesTurn};
 
 use crate::change::code::{Code, change_code};
@@ -29,14 +28,8 @@ fn take_new<S: Shelf>(
     ensures { TakesTurn (S.model shelf.old) (S.model shelf.new) run.old run.new
         line.new.items result }
 {
-    let taken = match take_change(shelf, run, line) {
-        Ok(taken) => taken,
-        Err(stop) => return Err(stop),
-    };
-    let Some(at) = taken else {
-        if let Err(stop) = run.report(SourceKind::EndedBeforeZ, change.begin, 0) {
-            return Err(stop);
-        }
+    let Some(at) = take_change(shelf, run, line)? else {
+        run.report(SourceKind::EndedBeforeZ, change.begin, 0)?;
         run.stage = Stage::Done;
         return Ok(Turn::On);
     };
@@ -54,9 +47,7 @@ fn take_new<S: Shelf>(
                 run.stage = Stage::Seeking;
                 return Ok(Turn::On);
             }
-            if let Err(stop) = run.report(SourceKind::WantsZ, at.place, 0) {
-                return Err(stop);
-            }
+            run.report(SourceKind::WantsZ, at.place, 0)?;
             Ok(Turn::On)
         }
     }
@@ -77,9 +68,7 @@ fn take_end<S: Shelf>(
     match run.stage {
         Stage::Done | Stage::Seeking => Ok(Turn::Ended),
         Stage::Waiting(begin) => {
-            if let Err(stop) = run.report(SourceKind::NoMatch, begin, 0) {
-                return Err(stop);
-            }
+            run.report(SourceKind::NoMatch, begin, 0)?;
             run.stage = Stage::Done;
             Ok(Turn::On)
         }
@@ -113,9 +102,7 @@ pub fn take_turn<S: Shelf>(
         return Ok(Turn::Ended);
     }
     if let Stage::Seeking = run.stage {
-        if let Err(stop) = seek(shelf, run, line) {
-            return Err(stop);
-        }
+        seek(shelf, run, line)?;
         return Ok(Turn::On);
     }
     take_settled(shelf, run, line)
@@ -132,18 +119,12 @@ fn take_settled<S: Shelf>(
     ensures { TakesTurn (S.model shelf.old) (S.model shelf.new) run.old run.new
         line.new.items result }
 {
-    let taken = match take_raw(shelf, run, line) {
-        Ok(taken) => taken,
-        Err(stop) => return Err(stop),
-    };
-    let Some(at) = taken else {
+    let Some(at) = take_raw(shelf, run, line)? else {
         return take_end(shelf, run, line);
     };
     let Some(begin) = begun_at(run.stage, &run.first, at.may_match, line) else {
         return emit_or_obey(shelf, run, line, at);
     };
-    if let Err(stop) = begin_change(shelf, run, line, begin, at.depth) {
-        return Err(stop);
-    }
+    begin_change(shelf, run, line, begin, at.depth)?;
     Ok(Turn::On)
 }

@@ -1,16 +1,19 @@
--- Steps of a stack of frames.
-use Rattle.std.specs.Prelude.{ℕ, ◌≤◌, ◌<◌, ◌≡◌, ◌+◌, ◌-◌, suc, zero, List, [], ◌∷◌, ◌++◌, Option, Some, None}
-use Rattle.std.specs.Prelude.{length, sum_by, true}
-use Rattle.std.specs.List.{list_all}
+-- Steps of a stack of frames, and what calls on a frame leave.
+use Rattle.std.specs.Prelude.{ℕ, ◌≤◌, ◌<◌, ◌≡◌, ◌+◌, ◌-◌, suc, zero, List, [], ◌∷◌, ◌++◌, Option, Some, None, length}
+use Rattle.std.specs.Prelude.{sum_by, true, false}
+use Rattle.std.specs.List.{list_all, list_any}
 use Rattle.cweb_names.specs.declared.name.NameId.{NameId}
 use Rattle.cweb_names.specs.declared.name.NameRef.{NameRef}
 use Rattle.cweb_store.specs.Parts.{Token, Name}
 use Rattle.cweb_store.specs.Calls.{Stored}
 use Rattle.cweb_out.specs.Expansion.{names, ends_below, joined, use_of, resolved_use, expanded_name, put}
-use Rattle.cweb_out.specs.surface.FrameSuffixes.{suffix}
+use Rattle.cweb_out.specs.surface.FrameStacks.{suffix, IsReady, rank, left, FrameIsWithin}
 use Rattle.cweb_out.specs.declared.expander.Expander.{Expander}
 use Rattle.cweb_out.specs.declared.frame.Frame.{Frame}
-use Rattle.cweb_out.specs.surface.FrameStacks.{IsReady, rank, left}
+use Rattle.cweb_print.specs.inner.BufferedPrinting.{PrintsPrefix}
+use Rattle.cweb_print.specs.surface.Printed.{setting_of}
+use Rattle.cweb_print.specs.declared.printer.Printer.{Printer}
+use Rattle.cweb_store.specs.inner.Records.{is_name_use}
 
 -- The rank of the top frame's owner, or a bound if there is no frame.
 abbrev pub top_rank : Stored → ℕ → List Frame → ℕ
@@ -62,3 +65,22 @@ pub record KeepsExpander (old new : Expander) : Type 0 where
   pub store : new.store ≡ old.store
   pub plan : new.plan ≡ old.plan
   pub valid : IsReady new
+
+-- No use was skipped between a list and its suffix.
+pub record PassesNoUse (old new : List Token) : Type 0 where
+  pub before : List Token
+  pub none : list_any is_name_use before ≡ false
+  pub same : old ≡ before ++ new
+
+-- The frame stays its owner's, within the tokens.
+pub record KeepsFrame (w : Stored) (old new : Frame) : Type 0 where
+  pub owner : new.owner ≡ old.owner
+  pub within : FrameIsWithin w new
+
+-- A prefix of the frame's list is printed. The frame stays its owner's, within the tokens.
+pub record PrintsFrame (w : Stored) (old new : Frame) (before after : Printer) (buffer buffer' : List ℕ)
+    : Type 0 where
+  pub owner : new.owner ≡ old.owner
+  pub within : FrameIsWithin w new
+  pub setting : setting_of after ≡ setting_of before
+  pub prints : PrintsPrefix before after (suffix w old) (suffix w new) buffer buffer'

@@ -7,7 +7,7 @@ use Rattle.cweb_names.specs.Names.{is_id}
 use Rattle.cweb_store.specs.Parts.{Token}
 use Rattle.cweb_store.specs.Calls.{Stored}
 use Rattle.cweb_out.specs.Expansion.{names, joined, uses, ends_below, has_rank, list_ends, cycle_from}
-use Rattle.cweb_out.specs.surface.FrameSuffixes.{FrameIsWithin, suffix}
+use Rattle.cweb_out.specs.surface.FrameStacks.{FrameIsWithin, suffix}
 use Rattle.cweb_out.specs.Outputs.{root_list, start_of}
 use Rattle.cweb_out.specs.declared.frame.Frame.{Frame}
 use Rattle.cweb_out.specs.declared.outputs.search.Mark.{Mark}

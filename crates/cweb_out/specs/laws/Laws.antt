@@ -1,17 +1,19 @@
 -- Laws of expansion, printing and cycles for any web.
 use Rattle.std.specs.Prelude.{◌≡◌, ◌≤◌, ◌<◌, ◌↔◌, ◌==◌, ℕ, suc, Bool, true, false, List, [], ◌∷◌, ◌++◌, Some, Err, fold}
+use Rattle.std.specs.Prelude.{codes, if◌then◌else◌}
 use Rattle.std.specs.List.{list_all, list_any}
 use Rattle.cweb_names.specs.declared.name.NameId.{NameId}
 use Rattle.cweb_names.specs.declared.name.NameRef.{NameRef}
 use Rattle.cweb_names.specs.Names.{is_id}
-use Rattle.cweb_store.specs.Parts.{Token, Name}
+use Rattle.cweb_store.specs.Parts.{Token, Name, Join, Head, Tail}
 use Rattle.cweb_store.specs.Calls.{Stored}
 use Rattle.cweb_out.specs.Expansion.{names, joined, resolved_use, uses, ends_below, has_rank, expand}
 use Rattle.cweb_out.specs.Outputs.{cycle, planned}
 use Rattle.cweb_texts.specs.Edges.{last_is}
 use Rattle.cweb_print.specs.Printing.{Setting, file, file_token_bytes, without_joined_layout, left_after, print}
-use Rattle.cweb_print.specs.Printing.{print_after, stays_joined}
+use Rattle.cweb_print.specs.Printing.{print_after, stays_joined, plain_bytes}
 
+-- Any token but a use of a name.
 abbrev pub is_no_use : Token → Bool
 is_no_use (Name r) = false
 is_no_use t = true
@@ -77,3 +79,26 @@ pub record IsCycle (w : Stored) (ns : List NameId) : Type 0 where
 abbrev pub RefusedCyclesAreCycles : Type 0
 RefusedCyclesAreCycles = (w : Stored) (main : List ℕ) (ns : List NameId) → planned w main ≡ Err (cycle ns)
     → IsCycle w ns
+
+-- A blank, if the token before is a Join.
+abbrev pub blank_if : Bool → List ℕ
+blank_if after_join = if after_join then codes " " else []
+
+-- The section comments among tokens. A blank is before one that comes right after a Join.
+abbrev pub section_comments : Setting → Bool → List Token → List ℕ
+section_comments s after_join [] = []
+section_comments s after_join (Join ∷ ts) = section_comments s true ts
+section_comments s after_join (Head n ∷ ts) =
+    (blank_if after_join ++ plain_bytes s.replaced (Head n)) ++ section_comments s false ts
+section_comments s after_join (Tail n ∷ ts) =
+    (blank_if after_join ++ plain_bytes s.replaced (Tail n)) ++ section_comments s false ts
+section_comments s after_join (t ∷ ts) = section_comments s after_join ts
+
+-- After a Join come layout, section comments and further Joins, and then another token. Only the section comments are
+-- printed before that token.
+abbrev pub OnlySectionCommentsComeBetweenJoinedTokens : Type 0
+OnlySectionCommentsComeBetweenJoinedTokens = (s : Setting) (before between after : List Token) (t : Token)
+    → list_all (stays_joined true) between ≡ true → stays_joined true t ≡ false
+    → print s (before ++ Join ∷ (between ++ t ∷ after))
+    ≡ print s before ++ (section_comments s true between ++ (file_token_bytes s (Some Join) t
+    ++ print_after (file_token_bytes s) (Some t) (without_joined_layout false after)))

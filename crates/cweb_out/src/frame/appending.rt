@@ -1,8 +1,8 @@
 // Fast path of a frame: prints runs of direct tokens.
 ghost use Rattle.std.specs.Prelude.{◌≡◌, ◌≢◌, ◌∷◌, [], None, IfSome, true, false};
 ghost use Rattle.cweb_store.specs.Parts.{Name};
-ghost use Rattle.cweb_out.specs.surface.FrameSuffixes.{FrameIsWithin, suffix};
-ghost use Rattle.cweb_out.specs.inner.Frames.{KeepsFrame, PrintsFrame};
+ghost use Rattle.cweb_out.specs.surface.FrameStacks.{FrameIsWithin, suffix};
+ghost use Rattle.cweb_out.specs.inner.FrameStacks.{KeepsFrame, PrintsFrame};
 
 use crate::frame::Frame;
 use cweb_print::{OutBuffer, Printer};

@@ -1,15 +1,13 @@
 // Makes the plan of a store.
-ghost use Rattle.std.specs.Prelude.{◌≡◌, ◌<◌, ◌^◌, All, find, length, bytes_eq, OnOk, ◌++◌, ◌∷◌};
-ghost use Rattle.std.specs.Prelude.{[]};
+ghost use Rattle.std.specs.Prelude.{◌≡◌, ◌<◌, All, find, length, bytes_eq, OnOk, ◌++◌, ◌∷◌, []};
 ghost use Rattle.std.specs.List.{list_any};
 ghost use Rattle.std.specs.Result.{result_map_both};
 ghost use Rattle.cweb_names.specs.Names as spec;
 ghost use Rattle.cweb_store.specs.Parts as parts;
-ghost use Rattle.cweb_out.specs.inner.Planning.{IsRoot};
+ghost use Rattle.cweb_out.specs.inner.Planning.{IsRoot, NamesAll, NamesOne};
 ghost use Rattle.cweb_out.specs.Outputs.{has_no_program, name_spelling, output_name};
 ghost use Rattle.cweb_out.specs.Outputs.{outputs, planned};
 ghost use Rattle.cweb_out.specs.surface.Outputs.{IsExpectedPlan};
-ghost use Rattle.cweb_out.specs.inner.Planning.{NamesAll, NamesOne};
 
 use crate::outputs::fault::PlanFault;
 use crate::outputs::file_name::is_good_path;
@@ -25,10 +23,7 @@ pub fn plan(alloc: Global, store: &Store, main: &str) -> Result<Plan, PlanFault>
     ensures { IsExpectedPlan (planned store.now main.now) result }
 {
     let roots = roots(alloc, store)?;
-    let outputs = match outputs(alloc, store, main, roots.as_slice()) {
-        Ok(outputs) => outputs,
-        Err(fault) => return Err(fault),
-    };
+    let outputs = outputs(alloc, store, main, roots.as_slice())?;
     if let Some(name) = first_same(store, main) {
         return Err(PlanFault::SameName(name));
     }
@@ -127,10 +122,7 @@ fn outputs(
 {
     let mut outputs = Vec::new(alloc);
     'roots: for root in roots {
-        match output(alloc, store, main, *root) {
-            Ok(output) => add(&mut outputs, output)?,
-            Err(fault) => return Err(fault),
-        }
+        add(&mut outputs, output(alloc, store, main, *root)?)?;
     }
     Ok(outputs)
 }

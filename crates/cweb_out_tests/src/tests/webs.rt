@@ -4,8 +4,8 @@
 // next one. `@NAME` is a file's name without a part. `%cBYTES` sets the replacement of the byte 128 + c. Tokens: `wx`
 // Word, `n1` Number, `l"s"` Literal, `vx` Verbatim, `p+` Punct, `_` Blank, `$` Newline, `&` Join, `h` Defs, `[1` and
 // `]1` Head and Tail, `m7` and `M7` a Mark of line 7 of file 0 and 1, `<NAME` a use, `?NAME` a use by abbreviation.
-ghost use Rattle.std.specs.Prelude.{◌≡◌, ◌≤◌, ◌+◌, length, is_some, IfOk, IsOk, OnOk};
-ghost use Rattle.cweb_store.specs.surface.Growing.{part_count, token_count};
+ghost use Rattle.std.specs.Prelude.{◌≡◌, ◌≤◌, ◌+◌, length, is_some};
+ghost use Rattle.cweb_store.specs.surface.Tokens.{part_count, token_count};
 
 use super::wanted::holds;
 use cweb_files::{FileId, Place};

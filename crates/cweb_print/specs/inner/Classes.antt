@@ -1,16 +1,39 @@
--- Printing from a printer's state, token by token.
-use Rattle.std.specs.Prelude.{ℕ, Bool, true, false, ◌&&◌, ◌||◌, not, List, [], ◌∷◌, ◌++◌, codes, if◌then◌else◌}
-use Rattle.cweb_store.specs.Parts.{Token, Newline, Defs, Mark}
-use Rattle.cweb_texts.specs.Edges.{is_operator, is_one_of}
+-- Printing from a printer's state, token by token or by the edges of direct tokens.
+use Rattle.std.specs.Prelude.{ℕ, Bool, List, [], ◌++◌, codes, decimal, slice_index_or, true, false, ◌&&◌, ◌||◌}
+use Rattle.std.specs.Prelude.{not, ◌∷◌, if◌then◌else◌, ◌≡◌, is_some}
+use Rattle.std.specs.List.{list_all}
+use Rattle.cweb_files.specs.declared.place.Place.{Place}
+use Rattle.cweb_texts.specs.Edges.{is_one_of, is_operator}
+use Rattle.cweb_store.specs.Parts.{Token, Newline, Defs, Mark, is_comment, all_tokens}
+use Rattle.cweb_print.specs.Printing.{Setting, quoted, mark_line, macro_lines, plain_bytes}
 use Rattle.cweb_print.specs.Spacing.{is_wordlike, is_literal, is_number, begins_with}
-use Rattle.cweb_store.specs.Parts.{is_comment}
-use Rattle.cweb_print.specs.Printing.{Setting, mark_line, macro_lines, plain_bytes}
-use Rattle.cweb_print.specs.inner.PrintParts.{file_name}
 use Rattle.cweb_print.specs.declared.printer.class.Class.{Class}
-use Rattle.cweb_print.specs.declared.printer.class.Class.TheVariants as class
 use Rattle.cweb_print.specs.declared.printer.left.Left.{Left}
-use Rattle.cweb_print.specs.surface.Classes.{is_dropped, left_after_token}
+use Rattle.cweb_print.specs.surface.Printed.{is_dropped, left_after_token}
+use Rattle.cweb_store.specs.Calls.{Stored}
+use Rattle.cweb_texts.specs.inner.StringLists.{TokenBytesModel}
+use Rattle.cweb_texts.specs.declared.edges.Edge.{Edge}
+use Rattle.cweb_store.specs.inner.DirectBytes.{direct_bytes}
+use Rattle.cweb_print.specs.declared.printer.class.Class.TheVariants as class
+use Rattle.cweb_texts.specs.declared.edges.Edge.TheVariants as edge_kind
 
+-- A section's number between the two parts of a comment.
+abbrev pub numbered_comment : List ℕ → ℕ → List ℕ → List ℕ
+numbered_comment before n after = before ++ (decimal n ++ after)
+
+-- A quote or a backslash.
+abbrev pub wants_backslash : ℕ → Bool
+wants_backslash b = is_one_of (codes "\"\\") b
+
+-- The file name of a line mark.
+abbrev pub file_name : Setting → Place → List ℕ
+file_name s p = slice_index_or s.files p.file.0 []
+
+-- The end of a line mark, from the blank after the line number on.
+abbrev pub file_name_end : List ℕ → List ℕ
+file_name_end name = codes " \"" ++ (quoted name ++ codes "\"\n")
+
+-- The class of a Word, a Number or a literal.
 abbrev pub class_is_wordlike : Class → Bool
 class_is_wordlike class.Word = true
 class_is_wordlike class.Number = true
@@ -84,3 +107,59 @@ continuation_bytes t = []
 
 abbrev pub macro_by : (ℕ → List ℕ) → Class → Token → List ℕ
 macro_by replaced left t = continuation_bytes t ++ plain_bytes replaced t
+
+-- The class of a token with an edge.
+abbrev pub class_after_edge : Edge → Class
+class_after_edge edge_kind.Word = class.Word
+class_after_edge edge_kind.Number = class.Number
+class_after_edge edge_kind.Literal = class.Literal
+class_after_edge edge_kind.Glue = class.Glue
+class_after_edge edge_kind.PlainPlain = class.Other
+class_after_edge edge_kind.PlainOperator = class.Operator
+class_after_edge edge_kind.PlainPoint = class.Point
+class_after_edge edge_kind.OperatorPlain = class.Other
+class_after_edge edge_kind.OperatorOperator = class.Operator
+class_after_edge edge_kind.OperatorPoint = class.Point
+class_after_edge edge_kind.NumericPlain = class.Other
+class_after_edge edge_kind.NumericOperator = class.Operator
+class_after_edge edge_kind.NumericPoint = class.Point
+class_after_edge edge_kind.Blank = class.Other
+class_after_edge edge_kind.LineEnd = class.LineStart
+class_after_edge edge_kind.Unknown = class.Other
+
+-- The state after a token with an edge.
+abbrev pub left_after_edge : Edge → Left
+left_after_edge b = record { class = class_after_edge b; joined = false }
+
+-- Whether a blank comes between a token of the class and one with an edge.
+abbrev pub edge_is_apart : Class → Edge → Bool
+edge_is_apart left edge_kind.Word = class_is_wordlike left
+edge_is_apart left edge_kind.Number = class_is_wordlike left || class_is_point left
+edge_is_apart left edge_kind.Literal = class_is_wordlike left && not (class_is_literal left)
+edge_is_apart left edge_kind.OperatorPlain = class_is_operator left
+edge_is_apart left edge_kind.OperatorOperator = class_is_operator left
+edge_is_apart left edge_kind.OperatorPoint = class_is_operator left
+edge_is_apart left edge_kind.NumericPlain = class_is_number left || class_is_operator left
+edge_is_apart left edge_kind.NumericOperator = class_is_number left || class_is_operator left
+edge_is_apart left edge_kind.NumericPoint = class_is_number left || class_is_operator left
+edge_is_apart left b = false
+
+-- A token with the edge ends a line.
+abbrev pub edge_ends_line : Edge → Bool
+edge_ends_line edge_kind.LineEnd = true
+edge_ends_line b = false
+
+-- The bytes in a macro, where a newline is preceded by a backslash.
+abbrev pub continued_by : TokenBytesModel → List ℕ
+continued_by l = if edge_ends_line l.edge then codes " \\\n" else l.string
+
+-- The token at an index, which is below their number.
+abbrev pub token_at : Stored → ℕ → Token
+token_at w number = slice_index_or (all_tokens w.parts) number Token.Blank
+
+-- Direct tokens: those that are printed as their own bytes.
+abbrev pub is_direct : Token → Bool
+is_direct t = is_some (direct_bytes t)
+
+abbrev pub AreDirect : List Token → Type 0
+AreDirect ts = list_all is_direct ts ≡ true

@@ -1,7 +1,7 @@
 // Copies strings into a buffer, after its used bytes.
 ghost use Rattle.std.specs.Prelude.{◌≡◌, ◌≤◌, ◌<◌, ◌+◌, ◌++◌, ◌∷◌, [], length, take, nat_lt};
 ghost use Rattle.std.specs.Prelude.{is_some, IfSome};
-ghost use Rattle.cweb_print.specs.inner.Flushing.{blank_where};
+ghost use Rattle.cweb_print.specs.inner.BufferedPrinting.{blank_where};
 ghost use Rattle.cweb_print.specs.declared.buffer.TheConstants.{ROOM};
 
 use crate::buffer::ROOM;

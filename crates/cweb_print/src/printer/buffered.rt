@@ -2,11 +2,11 @@
 ghost use Rattle.std.specs.Prelude.{◌≡◌, ◌<◌, ◌+◌, ◌^◌, ◌++◌, [], false, true, OnOk, OnErr};
 ghost use Rattle.cweb_files.specs.Sinks.{written};
 ghost use Rattle.cweb_files.specs.surface.Writes.{Wrote};
-ghost use Rattle.cweb_store.specs.surface.TokenModels.{token_model};
-ghost use Rattle.cweb_print.specs.inner.Printables.{CanPrint, all_macro_lines, printable_bytes};
-ghost use Rattle.cweb_print.specs.surface.Classes.{left_after_tokens};
-ghost use Rattle.cweb_print.specs.surface.Printers.{MarkFileIsNamed};
-ghost use Rattle.cweb_print.specs.surface.Printed.{EndsFile, Moves, PrintsToken, left_in_printer, setting_of};
+ghost use Rattle.cweb_store.specs.surface.Tokens.{token_model};
+ghost use Rattle.cweb_print.specs.inner.BufferedPrinting.{CanPrint, all_macro_lines};
+ghost use Rattle.cweb_print.specs.inner.BufferedPrinting.{printable_bytes};
+ghost use Rattle.cweb_print.specs.surface.Printed.{left_after_tokens, MarkFileIsNamed, EndsFile};
+ghost use Rattle.cweb_print.specs.surface.Printed.{Moves, PrintsToken, left_in_printer, setting_of};
 
 use crate::buffer::OutBuffer;
 use crate::chunks::write_chunk;

@@ -1,8 +1,8 @@
 // Classes of tokens, which decide on the blanks between tokens.
 ghost use Rattle.std.specs.Prelude.{◌≡◌, ◌==◌, Some, codes};
-ghost use Rattle.cweb_store.specs.surface.TokenModels.{token_model};
+ghost use Rattle.cweb_store.specs.surface.Tokens.{token_model};
 ghost use Rattle.cweb_texts.specs.Edges.{is_operator, is_one_of, first_is};
-ghost use Rattle.cweb_print.specs.surface.Classes.{class_by, class_of, punct_class};
+ghost use Rattle.cweb_print.specs.surface.Printed.{class_by, class_of, punct_class};
 ghost use Rattle.cweb_print.specs.inner.Classes.{is_apart};
 
 use cweb_store::Token;

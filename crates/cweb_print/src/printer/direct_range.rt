@@ -2,9 +2,8 @@
 ghost use Rattle.std.specs.Prelude.{◌≤◌, ◌≡◌, false, length, slice_range, take};
 ghost use Rattle.cweb_store.specs.Parts.{all_tokens};
 ghost use Rattle.cweb_print.specs.declared.buffer.TheConstants.{ROOM};
-ghost use Rattle.cweb_print.specs.inner.EdgeSpacing.{left_after_edge};
+ghost use Rattle.cweb_print.specs.inner.Classes.{left_after_edge, AreDirect};
 ghost use Rattle.cweb_print.specs.inner.BufferedPrinting.{MovesBy, PrintsBy};
-ghost use Rattle.cweb_print.specs.inner.DirectTokens.{AreDirect};
 ghost use Rattle.cweb_print.specs.surface.Printed.{left_in_printer, setting_of};
 
 use crate::buffer::OutBuffer;

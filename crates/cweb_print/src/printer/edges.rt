@@ -1,6 +1,6 @@
 // Blanks between direct tokens.
 ghost use Rattle.std.specs.Prelude.{◌≡◌};
-ghost use Rattle.cweb_print.specs.inner.EdgeSpacing.{class_after_edge, edge_is_apart};
+ghost use Rattle.cweb_print.specs.inner.Classes.{class_after_edge, edge_is_apart};
 
 use crate::printer::class::Class;
 use cweb_store::Edge;

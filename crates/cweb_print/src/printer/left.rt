@@ -1,9 +1,9 @@
 // A printer's state after the tokens so far.
 ghost use Rattle.std.specs.Prelude.{◌≡◌, ◌&&◌};
-ghost use Rattle.cweb_store.specs.surface.TokenModels.{token_model};
+ghost use Rattle.cweb_store.specs.surface.Tokens.{token_model};
 ghost use Rattle.cweb_print.specs.Printing.{stays_joined};
 ghost use Rattle.cweb_store.specs.Parts.{is_layout};
-ghost use Rattle.cweb_print.specs.surface.Classes.{at_start, is_dropped, left_after_token};
+ghost use Rattle.cweb_print.specs.surface.Printed.{at_start, is_dropped, left_after_token};
 
 use crate::printer::class::Class;
 use cweb_store::Token;

@@ -1,17 +1,15 @@
 // Writes macro lines to a sink.
-ghost use Rattle.std.specs.Prelude.{◌≡◌, ◌≤◌, ◌<◌, ◌+◌, ◌^◌, ◌++◌, length, map, IfOk};
+ghost use Rattle.std.specs.Prelude.{◌≡◌, ◌≤◌, ◌<◌, ◌+◌, ◌^◌, ◌++◌, length, map, IfOk, flat_map};
 ghost use Rattle.cweb_files.specs.surface.Writes.{Wrote};
-ghost use Rattle.cweb_store.specs.surface.TokenModels.{token_model};
-ghost use Rattle.cweb_store.specs.Parts.{all_tokens};
+ghost use Rattle.cweb_store.specs.surface.Tokens.{token_model};
 ghost use Rattle.cweb_store.specs.inner.DirectBytes.{direct_bytes};
+ghost use Rattle.cweb_store.specs.Parts.{all_tokens};
 ghost use Rattle.cweb_print.specs.Printing.{macro_line, macros, replaced_in};
 ghost use Rattle.cweb_print.specs.inner.Classes.{added, all_added, continuation_bytes, macro_by};
-ghost use Rattle.cweb_print.specs.surface.Classes.{at_start, left_after_token};
-ghost use Rattle.cweb_print.specs.surface.TokenRanges.{tokens_of_part};
-ghost use Rattle.cweb_print.specs.inner.EdgeSpacing.{continued_by, edge_is_apart, token_at};
-ghost use Rattle.cweb_print.specs.inner.Flushing.{blank_where};
-ghost use Rattle.cweb_texts.specs.inner.Edges.{token_bytes_model};
-ghost use Rattle.std.specs.Prelude.{flat_map};
+ghost use Rattle.cweb_print.specs.inner.Classes.{continued_by, edge_is_apart, token_at};
+ghost use Rattle.cweb_print.specs.surface.Printed.{at_start, left_after_token, tokens_of_part};
+ghost use Rattle.cweb_print.specs.inner.BufferedPrinting.{blank_where};
+ghost use Rattle.cweb_texts.specs.inner.StringLists.{token_bytes_model};
 
 use crate::chunks::{write_blank, write_chunk};
 use crate::printer::class::Class;

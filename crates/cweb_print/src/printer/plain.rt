@@ -2,10 +2,10 @@
 ghost use Rattle.std.specs.Prelude.{◌≡◌, ◌<◌, ◌+◌, ◌^◌, nat_le};
 ghost use Rattle.std.specs.List.{list_any};
 ghost use Rattle.cweb_files.specs.surface.Writes.{Wrote};
-ghost use Rattle.cweb_store.specs.surface.TokenModels.{token_model};
+ghost use Rattle.cweb_store.specs.surface.Tokens.{token_model};
 ghost use Rattle.cweb_print.specs.Printing.{plain_bytes, word_byte, word_bytes};
-ghost use Rattle.cweb_print.specs.inner.PrintParts.{numbered_comment};
-ghost use Rattle.cweb_print.specs.Printing.{default_replacement, hex_digit, replaced_in};
+ghost use Rattle.cweb_print.specs.Printing.{hex_digit, replaced_in};
+ghost use Rattle.cweb_print.specs.inner.Classes.{numbered_comment};
 
 use crate::chunks::{write_chunk, write_three};
 use cweb_files::{Sink, SinkFault};

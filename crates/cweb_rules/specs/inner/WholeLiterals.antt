@@ -1,14 +1,19 @@
 -- Literals that end in their line.
-use Rattle.std.specs.Prelude.{◌≡◌, ◌≤◌, ◌<◌, ℕ, Bool, ◌==◌, List, codes, length}
+use Rattle.std.specs.Prelude.{ℕ, ◌≡◌, ◌≤◌, ◌<◌, Bool, ◌==◌, List, codes, length}
+use Rattle.cweb_rules.specs.declared.quote.Quote.{Quote}
+use Rattle.cweb_rules.specs.declared.quote.Quote.TheVariants.{Single, Double}
 use Rattle.cweb_texts.specs.Edges.{is_one_of}
 use Rattle.cweb_rules.specs.Items.{reach, look_in_literal}
-use Rattle.cweb_rules.specs.inner.Looks.{reached}
+use Rattle.cweb_rules.specs.inner.LineItems.{reached}
 use Rattle.cweb_rules.specs.declared.end.End.TheVariants.{Closed, Open}
-use Rattle.cweb_rules.specs.declared.look.Look.TheVariants as look
-use Rattle.cweb_rules.specs.inner.Quotes.{quote_byte}
-use Rattle.cweb_rules.specs.declared.quote.Quote.{Quote}
 use Rattle.cweb_rules.specs.declared.whole_literals.Ahead.{Ahead}
+use Rattle.cweb_rules.specs.declared.look.Look.TheVariants as look
 use Rattle.cweb_rules.specs.declared.whole_literals.Ahead.TheVariants as ahead
+
+-- The bytes of the type `Quote`.
+abbrev pub quote_byte : Quote → ℕ
+quote_byte Single = 39
+quote_byte Double = 34
 
 -- The bytes that may be more than a unit of their own.
 abbrev pub is_literal_special : ℕ → Bool

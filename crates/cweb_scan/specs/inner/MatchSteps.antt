@@ -1,23 +1,24 @@
--- The state after the next lexeme, if it ends in its line and no head is open.
-use Rattle.std.specs.Prelude.{◌≡◌, ℕ, Bool, true, false, ◌||◌, not, List, [], ◌∷◌, ◌++◌, take, codes, bytes_eq, if◌then◌else◌}
+-- The first rule that applies, and the state after its lexeme.
+use Rattle.std.specs.Prelude.{◌≡◌, ℕ, Bool, true, false, ◌||◌, not, List, [], ◌∷◌, ◌++◌, take, codes, ◌&&◌, drop}
 use Rattle.cweb_files.specs.declared.place.Place.{Place}
-use Rattle.cweb_rules.specs.Bytes.{begins, is_blank, is_line_end, starts_section}
+use Rattle.cweb_rules.specs.Bytes.{begins, is_blank, is_line_end, starts_section, at_line_end}
 use Rattle.cweb_texts.specs.Edges.{first_is}
 use Rattle.cweb_rules.specs.Codes.{in_limbo, in_tex, in_macro, in_c}
 use Rattle.cweb_rules.specs.Matches.{RuleMatch}
 use Rattle.cweb_rules.specs.declared.context.Context.{Context}
 use Rattle.cweb_rules.specs.declared.context.Context.TheVariants.{Limbo, TeX, Definition, Macro, CText}
 use Rattle.cweb_rules.specs.declared.effect.Effect.{Effect}
-use Rattle.cweb_rules.specs.declared.effect.Effect.TheVariants as effect
 use Rattle.cweb_rules.specs.declared.end.End.{End}
 use Rattle.cweb_rules.specs.declared.end.End.TheVariants.{Closed, Cut, Nested, Open}
-use Rattle.cweb_rules.specs.declared.fault.ScanKind.TheVariants.{DoubleAtInString}
 use Rattle.cweb_rules.specs.declared.rule.Rule.{Rule}
-use Rattle.cweb_rules.specs.declared.rule.Rule.TheVariants as rule
 use Rattle.cweb_scan.specs.Effects.{item}
-use Rattle.cweb_scan.specs.State.{is_c, ScanState, report}
-use Rattle.cweb_scan.specs.inner.DirectiveInvariant.{in_open_part}
+use Rattle.cweb_scan.specs.State.{is_c, ScanState, names_include}
+use Rattle.cweb_scan.specs.inner.ScanParts.{in_open_part}
+use Rattle.cweb_rules.specs.inner.Rules.{c_rule}
+use Rattle.cweb_rules.specs.declared.effect.Effect.TheVariants as effect
+use Rattle.cweb_rules.specs.declared.rule.Rule.TheVariants as rule
 
+-- The state after the next lexeme, if it ends in its line and no head is open.
 abbrev pub after_match : RuleMatch → List ℕ → ScanState → ScanState
 after_match f t s = (item f.kind (take f.size t) (record { state = s; later = [] })).state
 
@@ -113,10 +114,6 @@ pub record IsPast (t : List ℕ) : Type 0 where
   pub section : starts_section t ≡ false
   pub code : begins (codes "@") t ≡ false
 
--- The state after a unit of a literal. An `@` that isn't doubled is a fault.
-abbrev pub unit_state : ScanState → List ℕ → ScanState
-unit_state s u = if bytes_eq u (codes "@") then report DoubleAtInString s else s
-
 -- The lexeme of a line comment has at least two bytes.
 abbrev pub needs_two : Rule → Bool
 needs_two rule.LineComment = true
@@ -126,3 +123,19 @@ needs_two r = false
 abbrev pub is_name_effect : Effect → Bool
 is_name_effect effect.Named = true
 is_name_effect e = false
+
+-- A `\` at the end of a line emits nothing in a macro.
+abbrev pub ends_macro_line : Context → List ℕ → Bool
+ends_macro_line c t =
+    elim c [
+      | Limbo ↦ false
+      | TeX ↦ false
+      | Definition begun ↦ false
+      | Macro ↦ begins (codes "\\") t && at_line_end
+          (drop 1 t)
+      | CText ↦ false
+    ]
+
+-- Only C text has included names.
+abbrev pub rule_in : ScanState → List ℕ → Rule
+rule_in s t = c_rule (is_c s.context && names_include s) t

@@ -8,18 +8,16 @@ use Rattle.cweb_rules.specs.declared.context.Context.{Context}
 use Rattle.cweb_rules.specs.declared.context.Context.TheVariants.{Limbo, TeX, Definition, Macro, CText}
 use Rattle.cweb_rules.specs.declared.end.End.TheVariants.{Cut}
 use Rattle.cweb_rules.specs.declared.items.Item.{Item}
-use Rattle.cweb_rules.specs.inner.LineItems.{opens_in}
-use Rattle.cweb_rules.specs.inner.Looks.{look_of}
-use Rattle.cweb_rules.specs.laws.Pays.{at_line_ends}
+use Rattle.cweb_rules.specs.inner.LineItems.{opens_in, look_of}
+use Rattle.cweb_rules.specs.laws.Laws.{at_line_ends}
 use Rattle.cweb_scan.specs.Effects.{literal_unit}
 use Rattle.cweb_scan.specs.State.{ScanState}
 use Rattle.cweb_scan.specs.declared.reader.open.Open.{Open}
 use Rattle.cweb_scan.specs.declared.reader.open.Open.TheVariants.{Between, Comment, Name, Literal, RawLiteral}
 use Rattle.cweb_scan.specs.inner.MatchSteps.{is_head, reads_c, reads_names, reads_literals, starts_name, IsPast}
-use Rattle.cweb_scan.specs.inner.ReaderModel.{OpenItem}
+use Rattle.cweb_scan.specs.inner.ReaderModel.{OpenItem, HasItemRoom}
 use Rattle.cweb_scan.specs.inner.ReaderModel as model
-use Rattle.cweb_scan.specs.inner.Room.{HasItemRoom}
-use Rattle.cweb_scan.specs.laws.Law.{next_match}
+use Rattle.cweb_scan.specs.laws.Laws.{next_match}
 
 abbrev pub is_between : Open → Bool
 is_between kind = elim kind [ Between ↦ true | _ ↦ false ]

@@ -1,16 +1,36 @@
--- The model of a reader: the state, and an item that is open at the end of a line.
-use Rattle.std.specs.Prelude.{◌≡◌, ◌≤◌, ◌<◌, ℕ, ◌+◌, ◌*◌, Bool, true, false, List, [], ◌∷◌, ◌++◌, length, drop}
+-- The model of a reader: the state, an item that is open at the end of a line, and the room in the store.
+use Rattle.std.specs.Prelude.{◌≡◌, ◌<◌, ℕ, ◌+◌, true, length, ◌≤◌, ◌*◌, Bool, false, List, [], ◌∷◌, ◌++◌, drop}
+use Rattle.cweb_names.specs.surface.Names.{too_many}
+use Rattle.cweb_store.specs.surface.Tokens.{token_count, part_count}
+use Rattle.cweb_scan.specs.State.{ScanState, move_to, start_state}
+use Rattle.cweb_scan.specs.inner.ScanParts.{in_open_part, no_place}
 use Rattle.cweb_files.specs.declared.place.Place.{Place}
 use Rattle.cweb_input.specs.Lines.{Line}
-use Rattle.cweb_names.specs.surface.Names.{too_many}
 use Rattle.cweb_rules.specs.inner.LineItems.{AtLineEnd, IsLine}
-use Rattle.cweb_scan.specs.State.{ScanState, move_to, start_state}
 use Rattle.cweb_scan.specs.Effects.{Reading}
-use Rattle.cweb_scan.specs.inner.Room.{weight}
 use Rattle.cweb_scan.specs.Lexemes.{lex, read_lines}
-use Rattle.cweb_scan.specs.inner.ScanParts.{no_place}
-use Rattle.cweb_scan.specs.laws.ReaderModel.{newline_prefixed}
-use Rattle.cweb_scan.specs.laws.ReaderModel.{places}
+use Rattle.cweb_scan.specs.laws.Laws.{newline_prefixed, places}
+
+-- The builder accepts so many tokens, a part and an occurrence. A section has a number.
+pub record HasItemRoom (tokens : ℕ) (s : ScanState) : Type 0 where
+  pub for_tokens : token_count s.contents.parts + tokens < too_many
+  pub for_a_part : part_count s.contents.parts + 1 < too_many
+  pub for_an_occurrence : length s.contents.occurrences + 1 < too_many
+  pub for_a_section : s.sections + 1 < too_many
+
+-- A part is open, and the builder accepts so many of its tokens.
+pub record CanEmit (tokens : ℕ) (s : ScanState) : Type 0 where
+  pub part : in_open_part s.context ≡ true
+  pub room : HasItemRoom tokens s
+
+-- The builder accepts a part and two tokens.
+pub record HasPartRoom (s : ScanState) : Type 0 where
+  pub for_tokens : token_count s.contents.parts + 2 < too_many
+  pub for_a_part : part_count s.contents.parts + 1 < too_many
+
+-- The weight of a state: its tokens, parts, occurrences and sections.
+abbrev pub weight : ScanState → ℕ
+weight s = token_count s.contents.parts + part_count s.contents.parts + length s.contents.occurrences + s.sections
 
 -- No item, or the source so far of an open one. The lines after its newlines have these places.
 pub data OpenItem : Type 0 where
@@ -112,3 +132,15 @@ gone_to place h = record h { state = move_to place h.state }
 -- The state at the end of the source, which ends an open item.
 abbrev pub source_ended : ReaderModel → ScanState
 source_ended h = (read_on h [] []).state
+
+-- No item is open, the context allows the next lexeme, and the store has room for it.
+pub record AwaitsLexeme (allowed : Type 0) (h : ReaderModel) : Type 0 where
+  pub between : h.item ≡ Between
+  pub context : allowed
+  pub room : HasItemRoom 2 h.state
+
+-- At least one byte was taken, since no item was open. A pending item takes the whole rest.
+pub record MakesProgress (n : ℕ) (rest : List ℕ) (old new : ReaderModel) : Type 0 where
+  pub some : 1 ≤ n
+  pub last : is_pending new.item ≡ true → n ≡ length rest
+  pub taken : TakesPrefix n rest old new

@@ -1,21 +1,25 @@
--- Parts of the definitions of a scan.
-use Rattle.std.specs.Prelude.{ℕ, Bool, List, [], ◌-◌, Option, Some, None, length, take, codes}
-use Rattle.std.specs.Prelude.{if◌then◌else◌}
+-- Parts of the definitions of a scan, and the code's directive state.
+use Rattle.std.specs.Prelude.{ℕ, Bool, List, [], ◌-◌, Option, Some, None, length, take, codes, if◌then◌else◌, true}
+use Rattle.std.specs.Prelude.{false, ◌&&◌, not, bytes_eq, ◌≡◌}
 use Rattle.std.specs.List.{list_all}
 use Rattle.std.specs.Option.{option_map_or}
 use Rattle.cweb_files.specs.declared.place.Place.{Place}
 use Rattle.cweb_names.specs.Names.{Occurrence, is_abbreviation}
 use Rattle.cweb_names.specs.declared.name.How.TheVariants.{Full, Prefix}
-use Rattle.cweb_store.specs.Parts.{Token, Part, Punct, Newline, is_blank}
+use Rattle.cweb_store.specs.Parts.{Token, Part, Punct, Newline, is_blank, Word, Blank, Mark, is_macro, is_layout}
+use Rattle.cweb_store.specs.Parts.{without_last}
 use Rattle.cweb_rules.specs.declared.context.Context.{Context}
-use Rattle.cweb_rules.specs.declared.context.Context.TheVariants.{Definition, Macro, CText}
-use Rattle.cweb_rules.specs.declared.effect.Effect.{Effect}
-use Rattle.cweb_rules.specs.declared.effect.Effect.TheVariants.{EmitAt}
-use Rattle.cweb_rules.specs.Matches.{Kind}
+use Rattle.cweb_rules.specs.declared.context.Context.TheVariants.{Definition, Macro, CText, Limbo, TeX}
 use Rattle.cweb_store.specs.Calls.{finished}
 use Rattle.cweb_scan.specs.Lexemes.{Scanned}
-use Rattle.cweb_scan.specs.State.{ScanState, emit, move_to, end_part, drop_definition, leave}
-use Rattle.cweb_scan.specs.Effects.{line_end_token, stays_in_head}
+use Rattle.cweb_scan.specs.State.{ScanState, leave, is_c}
+use Rattle.cweb_scan.specs.declared.directive.Last.{Last}
+use Rattle.cweb_scan.specs.declared.directive.Stage.{Stage}
+use Rattle.cweb_scan.specs.declared.directive.Stage.TheVariants.{Outside, Bare, Include, Further}
+use Rattle.cweb_scan.specs.declared.directive.Directive.{Directive}
+use Rattle.cweb_scan.specs.DirectiveTokens.{is_bare_include, is_punct}
+use Rattle.cweb_scan.specs.declared.directive.Last.TheVariants as last
+use Rattle.cweb_scan.specs.DirectiveTokens as spec
 
 -- The directive has only Blanks.
 abbrev pub is_bare : List Token → Bool
@@ -24,10 +28,6 @@ is_bare ts = list_all is_blank ts
 -- The tokens of the open part.
 abbrev pub tokens_of : Option Part → List Token
 tokens_of part = option_map_or (λ (p : Part). p.tokens) part []
-
--- Another definition or a part ends a macro.
-abbrev pub end_macro_in : Context → ScanState → ScanState
-end_macro_in c s = elim c [ Macro ↦ end_part s | _ ↦ s ]
 
 -- A full name.
 abbrev pub full : Bool → List ℕ → Occurrence
@@ -42,19 +42,6 @@ abbrev pub as_occurrence : Bool → List ℕ → Occurrence
 as_occurrence is_file text =
     if is_abbreviation text then prefix is_file (take (length text - 3) text) else full is_file text
 
--- The state after a newline, by context.
-abbrev pub line_end_in : Context → Place → ScanState → ScanState
-line_end_in c next s =
-    move_to next (elim c [ Macro ↦ emit Newline s | CText ↦ emit (line_end_token next s) s | _ ↦ s ])
-
--- Any other lexeme ends a head; TeX continues there.
-abbrev pub enter_in : Context → Kind → ScanState → ScanState
-enter_in c k s = elim c [ Definition begun ↦ if stays_in_head k then s else drop_definition begun s | _ ↦ s ]
-
--- The token of a control code: only `@@` stands for a token of its own.
-abbrev pub code_token : Effect → Option Token
-code_token effect = elim effect [ EmitAt ↦ Some (Punct (codes "@")) | _ ↦ None ]
-
 -- The result at the end of the source.
 abbrev pub scanned_of : ScanState → Scanned
 scanned_of s = let t = leave s in
@@ -63,3 +50,91 @@ scanned_of s = let t = leave s in
 -- The place of an empty web.
 abbrev pub no_place : Place
 no_place = record { file = record { 0 = 0 }; line = 0 }
+
+-- What a directive depends on in the last token.
+abbrev pub last_kind : Token → Last
+last_kind (Punct b) = if bytes_eq b (codes "\\") then last.Backslash else last.Other
+last_kind Blank = last.Blank
+last_kind Newline = last.LineEnd
+last_kind (Mark place) = last.LineEnd
+last_kind t = last.Other
+
+abbrev pub maybe_last_kind : Option Token → Last
+maybe_last_kind None = last.Other
+maybe_last_kind (Some t) = last_kind t
+
+abbrev pub stage_of : Option (List Token) → Stage
+stage_of None = Outside
+stage_of (Some ts) = if is_bare ts then Bare else (if is_bare_include ts then Include else Further)
+
+abbrev pub directive_model : spec.Directive → Directive
+directive_model d = record { stage = stage_of d.tokens; last = maybe_last_kind d.last }
+
+abbrev pub is_after_line_end : Last → Bool
+is_after_line_end l = elim l [ last.LineEnd ↦ true | last.Backslash ↦ false | last.Blank ↦ false | last.Other ↦ false ]
+
+abbrev pub is_after_backslash : Last → Bool
+is_after_backslash l = elim l [ last.LineEnd ↦ false | last.Backslash ↦ true | last.Blank ↦ false | last.Other ↦ false ]
+
+abbrev pub continues_line : Last → Token → Bool
+continues_line l Newline = is_after_backslash l
+continues_line l t = false
+
+abbrev pub is_outside : Stage → Bool
+is_outside g = elim g [ Outside ↦ true | Bare ↦ false | Include ↦ false | Further ↦ false ]
+
+abbrev pub is_bare_stage : Stage → Bool
+is_bare_stage g = elim g [ Outside ↦ false | Bare ↦ true | Include ↦ false | Further ↦ false ]
+
+abbrev pub is_include_stage : Stage → Bool
+is_include_stage g = elim g [ Outside ↦ false | Bare ↦ false | Include ↦ true | Further ↦ false ]
+
+abbrev pub is_include_word : Token → Bool
+is_include_word (Word b) = bytes_eq b (codes "include")
+is_include_word t = false
+
+abbrev pub is_blank_token : Token → Bool
+is_blank_token Blank = true
+is_blank_token t = false
+
+-- The stage of an open directive after one more token.
+abbrev pub next_open_stage : Stage → Token → Stage
+next_open_stage g t =
+    if is_blank_token t then g else (if is_include_word t && is_bare_stage g then Include else Further)
+
+abbrev pub next_stage : Directive → Token → Stage
+next_stage d t =
+    if is_outside d.stage then (if is_punct (codes "#") (Some t) && is_after_line_end d.last then Bare else Outside)
+    else (if is_after_line_end (last_kind t) && not
+    (continues_line d.last t) then Outside else next_open_stage d.stage t)
+
+abbrev pub after_token : Directive → Token → Directive
+after_token d t = record { stage = next_stage d t; last = last_kind t }
+
+abbrev pub new_directive : Directive
+new_directive = record { stage = Outside; last = last.Other }
+
+-- The code's directive state after a part's tokens.
+abbrev pub after_tokens : List Token → Directive
+after_tokens ts = directive_model (spec.directive_of ts)
+
+-- Whether a part is open.
+abbrev pub is_part_open : Option Part → Bool
+is_part_open None = false
+is_part_open (Some p) = true
+
+abbrev pub is_open_macro : Option Part → Bool
+is_open_macro None = false
+is_open_macro (Some p) = is_macro p.kind
+
+-- A macro and a C part are parts of the store.
+abbrev pub in_open_part : Context → Bool
+in_open_part c = elim c [ Limbo ↦ false | TeX ↦ false | Definition begun ↦ false | Macro ↦ true | CText ↦ true ]
+
+-- A part is open exactly in a macro and in C text. In C text, `directive` is that of the part's tokens, and `solid`
+-- that of the tokens without trailing layout.
+pub record IsTied (directive solid : Directive) (context : Context) (part : Option Part) : Type 0 where
+  pub part_is_open : is_part_open part ≡ in_open_part context
+  pub is_no_macro : is_c context ≡ true → is_open_macro part ≡ false
+  pub directive_is : is_c context ≡ true → directive ≡ after_tokens (tokens_of part)
+  pub solid_is : is_c context ≡ true → solid ≡ after_tokens (without_last is_layout (tokens_of part))

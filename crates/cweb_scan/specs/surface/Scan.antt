@@ -1,15 +1,28 @@
--- The result of a scan, and how a scan ends early.
-use Rattle.std.specs.Prelude.{◌≡◌, ◌<◌, ◌≤◌, ◌+◌, ℕ, List, [], length, All, Option, Some}
+-- The result of a scan, its bounds, and how a scan ends early.
+use Rattle.std.specs.Prelude.{◌≤◌, ℕ, ◌+◌, List, [], ◌∷◌, length, ◌≡◌, ◌<◌, All, Option, Some}
 use Rattle.cweb_input.specs.Lines.{Line}
+use Rattle.cweb_store.specs.Parts.{all_tokens, Token, Mark}
+use Rattle.cweb_store.specs.Calls.{Stored}
+use Rattle.cweb_store.specs.surface.Tokens.{uninterned_store_bytes}
 use Rattle.cweb_lines.specs.Events.{Event, emitted_lines}
 use Rattle.cweb_lines.specs.surface.MergeProgress.{SoFar, EmitsLines, StopsAfterLines, ReportsPrefix}
 use Rattle.cweb_input.specs.surface.OpenSources.{StopsFor, StopsReading}
 use Rattle.cweb_input.specs.declared.limits.TheConstants.{LINES, BYTES}
 use Rattle.cweb_input.specs.declared.stop.Stop.{Stop}
-use Rattle.cweb_store.specs.Parts.{Token, Mark, all_tokens}
-use Rattle.cweb_scan.specs.surface.Law.{IsBounded, web_size}
 use Rattle.cweb_scan.specs.Lexemes.{Scanned, scanned}
+use Rattle.cweb_scan.specs.declared.scanner.scanned.Scanned as code
 
+-- The bytes plus the lines of a web.
+abbrev pub web_size : List Line → ℕ
+web_size [] = 0
+web_size (line ∷ lines) = length line.bytes + 1 + web_size lines
+
+-- At most n tokens, and n bytes of strings counted as often as they occur. `text_bytes` is no greater.
+pub record IsBounded (store : Stored) (n : ℕ) : Type 0 where
+  pub tokens : length (all_tokens store.parts) ≤ n
+  pub bytes : uninterned_store_bytes store ≤ n
+
+-- A Mark is in one of the first `files` files.
 abbrev pub IsMarkBelow : ℕ → Token → Type 0
 IsMarkBelow files (Mark place) = place.file.0 < files
 IsMarkBelow files t = Unit {0}
@@ -53,3 +66,7 @@ pub record ScanEndsEarly (stop : Stop) (old new : SoFar) (all : List Event) : Ty
 pub record LeavesStop (stop : Stop) (in_merger : Option Stop) : Type 0 where
   pub kind : StopsReading stop
   pub kept : in_merger ≡ Some stop
+
+-- The model of a scan's result.
+abbrev pub scanned_model : code.Scanned → Scanned
+scanned_model s = record { store = s.store; faults = s.faults.items; sections = s.sections; starred = s.starred.items }

@@ -9,7 +9,7 @@ use std::alloc::AllocError;
 impl Reader {
     ghost use Rattle.cweb_rules.specs.inner.LineItems.{IsLine};
     ghost use Rattle.cweb_scan.specs.inner.ReaderModel.{cost, is_pending, Between, TakesBytes};
-    ghost use Rattle.cweb_scan.specs.inner.ReaderSteps.{MakesProgress};
+    ghost use Rattle.cweb_scan.specs.inner.ReaderModel.{MakesProgress};
 
     // One step: a run of plain C text and the lexeme after it. Returns its size.
     fn take_step(&mut self, rest: Rest<'_>) -> Result<usize, AllocError>

@@ -13,12 +13,11 @@ use std::alloc::AllocError;
 impl Reader {
     ghost use Rattle.std.specs.List.{prefix_len};
     ghost use Rattle.std.specs.Prelude.{true, false, IsTrue};
-    ghost use Rattle.cweb_scan.specs.inner.Skipped.{is_skipped};
+    ghost use Rattle.cweb_scan.specs.inner.FastPaths.{is_skipped};
     ghost use Rattle.cweb_scan.specs.inner.MatchSteps.{reads_c};
     ghost use Rattle.cweb_scan.specs.inner.ReaderModel.{cost, gone_to, read_after, Between};
-    ghost use Rattle.cweb_scan.specs.inner.ReaderModel.{source_ended, BeginsLine};
-    ghost use Rattle.cweb_scan.specs.inner.ReaderModel.{HasLineRoom, TakesLine};
-    ghost use Rattle.cweb_scan.specs.inner.Room.{weight};
+    ghost use Rattle.cweb_scan.specs.inner.ReaderModel.{source_ended, BeginsLine, HasLineRoom};
+    ghost use Rattle.cweb_scan.specs.inner.ReaderModel.{TakesLine, weight};
 
     // Begins a line: the first one, or one after a newline. Returns the number of its bytes that a pending item takes.
     fn begin_line(&mut self, place: Place, line: &[u8]) -> Result<usize, AllocError>
@@ -115,14 +114,7 @@ impl Reader {
             return Ok(Scanner::new(self.alloc, place));
         }
         self.end_source()?;
-        let Reader {
-            alloc: _,
-            scanner,
-            item: _,
-            pending: _,
-            places: _,
-            begun: _,
-        } = self;
+        let Reader { scanner, .. } = self;
         Ok(scanner)
     }
 }

@@ -13,13 +13,12 @@ use std::alloc::AllocError;
 
 impl Reader {
     ghost use Rattle.cweb_rules.specs.Bytes as bytes;
-    ghost use Rattle.cweb_scan.specs.inner.MatchSteps.{is_head, reads_c};
-    ghost use Rattle.cweb_scan.specs.inner.ReaderSteps.{AwaitsLexeme, MakesProgress};
+    ghost use Rattle.cweb_scan.specs.inner.MatchSteps.{is_head, reads_c, ends_macro_line, rule_in};
+    ghost use Rattle.cweb_scan.specs.inner.ReaderModel.{AwaitsLexeme, MakesProgress};
     ghost use Rattle.cweb_rules.specs.declared.context.Context.TheVariants as context;
     ghost use Rattle.cweb_rules.specs.inner.Rules as spec;
     ghost use Rattle.cweb_rules.specs.declared.rule.Rule.TheVariants as rule;
-    ghost use Rattle.cweb_scan.specs.inner.DirectiveInvariant.{in_open_part};
-    ghost use Rattle.cweb_scan.specs.inner.FirstRule.{ends_macro_line, rule_in};
+    ghost use Rattle.cweb_scan.specs.inner.ScanParts.{in_open_part};
 
     // Takes a control code that begins no section.
     #[inline(never)]
@@ -33,8 +32,7 @@ impl Reader {
         if is_name_effect(effect) {
             return self.open_name(rest);
         }
-        let size = self.scanner.take_item(effect, rest.bytes)?;
-        Ok(size)
+        self.scanner.take_item(effect, rest.bytes)
     }
 
     // In limbo and TeX: takes the bytes before the next `@`, a section start or a code.
@@ -47,8 +45,7 @@ impl Reader {
             return Ok(skipped);
         }
         if starts_section(rest.bytes) {
-            let size = self.scanner.take_section(rest.bytes)?;
-            return Ok(size);
+            return self.scanner.take_section(rest.bytes);
         }
         self.take_code(rest)
     }
@@ -66,14 +63,8 @@ impl Reader {
             Rule::Code => self.take_code(rest),
             Rule::RawLiteral => self.open_raw(rest),
             Rule::Literal => self.open_literal(rest),
-            Rule::Section => {
-                let size = self.scanner.take_section(rest.bytes)?;
-                Ok(size)
-            }
-            _ => {
-                let size = self.scanner.take_rule(rule, rest)?;
-                Ok(size)
-            }
+            Rule::Section => self.scanner.take_section(rest.bytes),
+            _ => self.scanner.take_rule(rule, rest),
         }
     }
 
@@ -112,15 +103,11 @@ impl Reader {
         match rule {
             Rule::Blanks => Ok(span_len(Class::Blank, rest.bytes)),
             Rule::Comment => self.open_comment(rest),
-            Rule::LineComment => {
-                let size = self.scanner.take_line_comment(rest.bytes)?;
-                Ok(size)
-            }
+            Rule::LineComment => self.scanner.take_line_comment(rest.bytes),
             Rule::Identifier => self.take_macro_name(begun, rest),
             _ => {
                 self.scanner.drop_definition(begun)?;
-                let size = self.take_tex(rest)?;
-                Ok(size)
+                self.take_tex(rest)
             }
         }
     }

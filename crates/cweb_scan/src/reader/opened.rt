@@ -1,8 +1,7 @@
 // How an open item ends in the rest of a line.
 ghost use Rattle.std.specs.Prelude.{◌≡◌};
 ghost use Rattle.cweb_rules.specs.Matches as rules;
-ghost use Rattle.cweb_rules.specs.inner.LineItems.{is_unclosed};
-ghost use Rattle.cweb_rules.specs.inner.Spans.{IsSizeIn};
+ghost use Rattle.cweb_rules.specs.inner.LineItems.{is_unclosed, IsSizeIn};
 
 use cweb_rules::End;
 use cweb_rules::items::opener_len;

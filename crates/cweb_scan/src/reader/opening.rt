@@ -15,7 +15,7 @@ impl Reader {
     ghost use Rattle.cweb_rules.specs.Matches.{starts_raw, starts_literal};
     ghost use Rattle.cweb_scan.specs.inner.MatchSteps.{is_head, reads_c, reads_names, reads_literals};
     ghost use Rattle.cweb_scan.specs.inner.MatchSteps.{starts_name, IsPast};
-    ghost use Rattle.cweb_scan.specs.inner.ReaderSteps.{AwaitsLexeme, MakesProgress};
+    ghost use Rattle.cweb_scan.specs.inner.ReaderModel.{AwaitsLexeme, MakesProgress};
 
     /// `/*`. Like the functions below, it returns the number of bytes taken.
     #[inline(never)]
@@ -30,8 +30,7 @@ impl Reader {
             self.hold(Open::Comment, rest.bytes)?;
             return Ok(rest.bytes.len());
         }
-        let size = self.scanner.take_comment(reached, rest.bytes, &[])?;
-        Ok(size)
+        self.scanner.take_comment(reached, rest.bytes, &[])
     }
 
     /// `@<`, or `@(` for a file.
@@ -49,8 +48,7 @@ impl Reader {
             self.hold(Open::Name, rest.bytes)?;
             return Ok(rest.bytes.len());
         }
-        let size = self.scanner.take_name(reached, plain, rest.bytes, &[])?;
-        Ok(size)
+        self.scanner.take_name(reached, plain, rest.bytes, &[])
     }
 
     /// A quote with an optional prefix.
@@ -68,8 +66,7 @@ impl Reader {
             self.hold(Open::Literal, rest.bytes)?;
             return Ok(rest.bytes.len());
         }
-        let size = self.scanner.take_literal(rest.bytes, &[])?;
-        Ok(size)
+        self.scanner.take_literal(rest.bytes, &[])
     }
 
     /// `R"` with an optional prefix, a delimiter and `(`.
@@ -86,7 +83,6 @@ impl Reader {
             self.hold(Open::RawLiteral, rest.bytes)?;
             return Ok(rest.bytes.len());
         }
-        let size = self.scanner.take_raw(rest.bytes, &[])?;
-        Ok(size)
+        self.scanner.take_raw(rest.bytes, &[])
     }
 }

@@ -26,7 +26,7 @@ impl Scanner {
     ghost use Rattle.cweb_rules.specs.Matches.{letter_match, effect_match};
     ghost use Rattle.cweb_rules.specs.Matches.{line_comment_match};
     ghost use Rattle.cweb_scan.specs.Effects as spec;
-    ghost use Rattle.cweb_scan.specs.inner.Room.{CanEmit, HasItemRoom};
+    ghost use Rattle.cweb_scan.specs.inner.ReaderModel.{CanEmit, HasItemRoom};
 
     /// A section start. Like the functions below, it returns the number of bytes taken.
     #[inline(never)]

@@ -13,8 +13,8 @@ impl Scanner {
     ghost use Rattle.cweb_scan.specs.Effects.{apply_effect};
     ghost use Rattle.cweb_scan.specs.Effects as after;
     ghost use Rattle.cweb_rules.specs.declared.effect.Effect.TheVariants as effect;
-    ghost use Rattle.cweb_scan.specs.inner.DirectiveInvariant.{in_open_part};
-    ghost use Rattle.cweb_scan.specs.inner.Room.{CanEmit, HasPartRoom};
+    ghost use Rattle.cweb_scan.specs.inner.ScanParts.{in_open_part};
+    ghost use Rattle.cweb_scan.specs.inner.ReaderModel.{CanEmit, HasPartRoom};
     ghost use Rattle.cweb_scan.specs.State as spec;
 
     /// `@d`: begins a macro definition.
@@ -32,8 +32,7 @@ impl Scanner {
         ensures { OnOk result (self.new ≡ apply_effect effect.InsertDefs self.old) }
     {
         self.emit(Token::Defs)?;
-        self.emit(Token::Mark(self.here))?;
-        Ok(())
+        self.emit(Token::Mark(self.here))
     }
 
     /// `@&`: emits a Join, and drops the layout before it.
@@ -43,8 +42,7 @@ impl Scanner {
     {
         self.builder.drop_layout();
         self.directive = self.solid;
-        self.emit(Token::Join)?;
-        Ok(())
+        self.emit(Token::Join)
     }
 
     /// `@l`: sets the transliteration of a byte in Words.
@@ -52,8 +50,7 @@ impl Scanner {
         requires { 128 ≤ byte }
         ensures { OnOk result (self.new ≡ after.set_letter byte (Some text.now) self.old) }
     {
-        self.builder.transliterate(byte, text)?;
-        Ok(())
+        self.builder.transliterate(byte, text)
     }
 
     /// `@'`: emits the code of a character, in decimal.
@@ -62,8 +59,7 @@ impl Scanner {
         ensures { OnOk result (self.new ≡ after.emit_constant (Some value) self.old) }
     {
         let mut digits = Buffer::new();
-        self.emit(Token::Number(digits.format(value).as_bytes()))?;
-        Ok(())
+        self.emit(Token::Number(digits.format(value).as_bytes()))
     }
 
     /// Reports a control text that didn't end.

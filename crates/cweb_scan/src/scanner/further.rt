@@ -1,7 +1,7 @@
 // Fast path for C text outside directives: whole lexemes that their first byte doesn't determine.
 ghost use Rattle.std.specs.Prelude.{◌≡◌, ◌≤◌, ◌<◌, ◌+◌, IfOk, false, length};
-ghost use Rattle.cweb_scan.specs.inner.Plain.{HasPlainRoom, IsPlainC, PassesPlain, TakesPlain};
-ghost use Rattle.cweb_rules.specs.inner.Firsts.{stops_plain};
+ghost use Rattle.cweb_scan.specs.inner.FastPaths.{HasPlainRoom, IsPlainC, PassesPlain, TakesPlain};
+ghost use Rattle.cweb_rules.specs.inner.Rules.{stops_plain};
 
 use crate::rest::Rest;
 use crate::scanner::Scanner;

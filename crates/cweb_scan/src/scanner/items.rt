@@ -2,14 +2,12 @@
 ghost use Rattle.std.specs.Prelude.{codes, ◌≡◌, ◌≤◌, ◌<◌, ◌+◌, IfOk, OnOk, length, take, drop};
 ghost use Rattle.std.specs.List.{prefix_len};
 ghost use Rattle.cweb_names.specs.surface.Names.{too_many};
-ghost use Rattle.cweb_rules.specs.laws.Pays.{at_line_ends};
+ghost use Rattle.cweb_rules.specs.laws.Laws.{at_line_ends};
 ghost use Rattle.cweb_rules.specs.Bytes as bytes;
 ghost use Rattle.cweb_rules.specs.Items as spec;
 ghost use Rattle.cweb_rules.specs.declared.end.End.TheVariants as ends;
 ghost use Rattle.cweb_rules.specs.declared.items.Item.TheVariants as item;
-ghost use Rattle.cweb_rules.specs.inner.Looks.{look_of, reached};
-ghost use Rattle.cweb_rules.specs.inner.PlainBytes.{is_plain};
-ghost use Rattle.cweb_rules.specs.inner.Spans.{IsSizeIn};
+ghost use Rattle.cweb_rules.specs.inner.LineItems.{look_of, reached, is_plain, IsSizeIn};
 
 use crate::reader::open::Open;
 use crate::reader::opened::opener_after;
@@ -24,13 +22,13 @@ use std::alloc::AllocError;
 impl Scanner {
     ghost use Rattle.cweb_rules.specs.Items.{look_in_name, unescaped};
     ghost use Rattle.cweb_rules.specs.Matches.{comment_match, name_match};
-    ghost use Rattle.cweb_store.specs.surface.Growing.{token_count};
+    ghost use Rattle.cweb_store.specs.surface.Tokens.{token_count};
     ghost use Rattle.cweb_scan.specs.Effects.{comment_line_end, occurrence};
     ghost use Rattle.cweb_scan.specs.State.{move_to};
     ghost use Rattle.cweb_scan.specs.inner.MatchSteps.{AppliesOver, passed};
     ghost use Rattle.cweb_scan.specs.inner.PendingItems.{takes_opener, CanTake};
-    ghost use Rattle.cweb_scan.specs.inner.Room.{HasItemRoom};
-    ghost use Rattle.cweb_scan.specs.laws.Law.{next_match};
+    ghost use Rattle.cweb_scan.specs.inner.ReaderModel.{HasItemRoom};
+    ghost use Rattle.cweb_scan.specs.laws.Laws.{next_match};
 
     // Takes the newlines of a comment.
     fn end_comment_lines(&mut self, places: &[Place]) -> Result<(), AllocError>

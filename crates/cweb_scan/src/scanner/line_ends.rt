@@ -11,10 +11,10 @@ use std::alloc::AllocError;
 
 impl Scanner {
     ghost use Rattle.cweb_names.specs.surface.Names.{too_many};
-    ghost use Rattle.cweb_store.specs.surface.Growing.{token_count};
+    ghost use Rattle.cweb_store.specs.surface.Tokens.{token_count};
     ghost use Rattle.cweb_scan.specs.Effects.{line_end, comment_line_end, line_end_token};
     ghost use Rattle.cweb_scan.specs.State.{is_c};
-    ghost use Rattle.cweb_scan.specs.inner.Plain.{IsPlainC};
+    ghost use Rattle.cweb_scan.specs.inner.FastPaths.{IsPlainC};
     ghost use Rattle.cweb_store.specs.Parts.{Newline};
     ghost use Rattle.cweb_scan.specs.State as spec;
 

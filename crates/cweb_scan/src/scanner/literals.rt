@@ -1,9 +1,9 @@
 // Literals, raw or not, and included names, each as one slice of the source, over any number of lines.
 ghost use Rattle.std.specs.Prelude.{bytes_eq, codes, ◌≡◌, ◌≤◌, ◌++◌, [], ◌∷◌, IfOk, OnOk, length, take, true};
-ghost use Rattle.cweb_rules.specs.laws.Pays.{at_line_ends};
+ghost use Rattle.cweb_rules.specs.laws.Laws.{at_line_ends};
 ghost use Rattle.cweb_rules.specs.Items as spec;
 ghost use Rattle.cweb_rules.specs.declared.end.End.TheVariants as ends;
-ghost use Rattle.cweb_rules.specs.inner.Looks.{look_of, reached};
+ghost use Rattle.cweb_rules.specs.inner.LineItems.{look_of, reached};
 
 use crate::scanner::Scanner;
 use crate::scanner::codes::ended;
@@ -58,7 +58,7 @@ impl Scanner {
     ghost use Rattle.cweb_rules.specs.Matches.{literal_match, raw_match, starts_literal, starts_raw};
     ghost use Rattle.cweb_scan.specs.inner.MatchSteps.{AppliesOver};
     ghost use Rattle.cweb_scan.specs.inner.PendingItems.{quoted_as, PassesUnits};
-    ghost use Rattle.cweb_scan.specs.inner.Room.{CanEmit};
+    ghost use Rattle.cweb_scan.specs.inner.ReaderModel.{CanEmit};
 
     // Reports the fault of a literal's unit, and moves over its newlines. Returns the places after them.
     fn pass_unit<'a>(&mut self, unit: &[u8], places: &'a [Place]) -> Result<&'a [Place], AllocError>
@@ -92,8 +92,7 @@ impl Scanner {
     {
         let (whole, _) = inner.split_at(size);
         if skipped_len(whole) == whole.len() {
-            let left = self.pass_unit(whole, places)?;
-            return Ok(left);
+            return self.pass_unit(whole, places);
         }
         self.pass_each_unit(item, inner, places)
     }
@@ -165,8 +164,7 @@ impl Scanner {
     {
         let prefix = literal_prefix(text);
         let quote = Quote::of(text.split_at(prefix).1);
-        let size = self.take_quoted(prefix + 1, Item::Literal(quote.byte()), text, places)?;
-        Ok(size)
+        self.take_quoted(prefix + 1, Item::Literal(quote.byte()), text, places)
     }
 
     /// A raw literal with its prefix. Returns its size.
@@ -179,12 +177,11 @@ impl Scanner {
             (λ n. AppliesOver (raw_match text.now) text.now places.now n self.old self.new) }
     {
         let closer = raw_closer(self.alloc, text)?;
-        let size = self.take_quoted(
+        self.take_quoted(
             raw_opener_len(text),
             Item::RawLiteral(&closer),
             text,
             places,
-        )?;
-        Ok(size)
+        )
     }
 }

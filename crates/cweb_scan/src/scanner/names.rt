@@ -13,7 +13,7 @@ impl Scanner {
     ghost use Rattle.cweb_scan.specs.State.{name_occurrence, add_name};
     ghost use Rattle.cweb_scan.specs.inner.ScanParts.{as_occurrence};
     ghost use Rattle.cweb_scan.specs.inner.PendingItems.{takes_opener};
-    ghost use Rattle.cweb_scan.specs.inner.Room.{HasItemRoom};
+    ghost use Rattle.cweb_scan.specs.inner.ReaderModel.{HasItemRoom};
 
     // Adds the occurrence of a name as it is spelled, and returns its index.
     fn add_spelled(&mut self, is_file: bool, name: &[u8]) -> Result<NameRef, AllocError>
@@ -23,11 +23,9 @@ impl Scanner {
     {
         if is_prefix(name) {
             let (prefix, _) = name.split_at(name.len() - 3);
-            let number = self.builder.occurrence(prefix, How::Prefix, is_file)?;
-            return Ok(number);
+            return self.builder.occurrence(prefix, How::Prefix, is_file);
         }
-        let number = self.builder.occurrence(name, How::Full, is_file)?;
-        Ok(number)
+        self.builder.occurrence(name, How::Full, is_file)
     }
 
     // Adds the occurrence of a name after its blanks are squeezed, and returns its index.

@@ -1,9 +1,9 @@
 // Fast path for C text outside items and directives: lexemes whose rule is determined by their first byte.
 ghost use Rattle.std.specs.Prelude.{◌≡◌, ◌≤◌, ◌<◌, ◌+◌, ◌*◌, IfOk, IfSome, OnOk, OnErr, length};
 ghost use Rattle.cweb_names.specs.surface.Names.{too_many};
-ghost use Rattle.cweb_store.specs.surface.TokenModels.{token_model};
-ghost use Rattle.cweb_scan.specs.inner.Plain.{taken_size, HasPlainRoom, IsPlainC, IsPlainToken};
-ghost use Rattle.cweb_scan.specs.inner.Plain.{PassesPlain, TakesPlain};
+ghost use Rattle.cweb_store.specs.surface.Tokens.{token_model};
+ghost use Rattle.cweb_scan.specs.inner.FastPaths.{taken_size, HasPlainRoom, IsPlainC, IsPlainToken};
+ghost use Rattle.cweb_scan.specs.inner.FastPaths.{PassesPlain, TakesPlain};
 
 use crate::directive::Directive;
 use crate::rest::Rest;
@@ -23,9 +23,9 @@ fn nonempty_len(size: usize) -> Option<usize>
 }
 
 impl Scanner {
-    ghost use Rattle.cweb_store.specs.surface.Growing.{token_count};
+    ghost use Rattle.cweb_store.specs.surface.Tokens.{token_count};
     ghost use Rattle.cweb_rules.specs.inner.LineItems.{IsLine};
-    ghost use Rattle.cweb_scan.specs.inner.Room.{weight};
+    ghost use Rattle.cweb_scan.specs.inner.ReaderModel.{weight};
     ghost use Rattle.cweb_scan.specs.State as spec;
 
     // Emits a token that opens no directive. A refused call changes nothing.

@@ -15,7 +15,7 @@ impl Scanner {
     ghost use Rattle.cweb_rules.specs.Codes.{in_c};
     ghost use Rattle.cweb_rules.specs.inner.Rules.{c_match_by};
     ghost use Rattle.cweb_scan.specs.inner.MatchSteps.{ends_in_line, needs_two, Applies};
-    ghost use Rattle.cweb_scan.specs.inner.Room.{CanEmit};
+    ghost use Rattle.cweb_scan.specs.inner.ReaderModel.{CanEmit};
 
     /// Takes the lexeme of a rule, if it ends in its line and is no code. Returns its size.
     #[inline(always)]

@@ -1,8 +1,8 @@
 // The result of a scan.
 ghost use Rattle.std.specs.Prelude.{◌≡◌, IfOk};
-ghost use Rattle.cweb_scan.specs.inner.Room.{HasItemRoom};
+ghost use Rattle.cweb_scan.specs.inner.ReaderModel.{HasItemRoom};
 ghost use Rattle.cweb_scan.specs.inner.ScanParts.{scanned_of};
-ghost use Rattle.cweb_scan.specs.surface.ScannedModel.{scanned_model};
+ghost use Rattle.cweb_scan.specs.surface.Scan.{scanned_model};
 
 use crate::scanner::Scanner;
 use cweb_rules::ScanFault;
@@ -10,23 +10,12 @@ use cweb_store::Store;
 use std::alloc::AllocError;
 
 /// The result of a scan. Faults are in the order of their items. `starred` has the numbers of the starred sections.
+#[derive(Drop)]
 pub struct Scanned {
     pub store: Store,
     pub faults: Vec<ScanFault>,
     pub sections: u32,
     pub starred: Vec<u32>,
-}
-
-// One call frees it, not one per field.
-impl Drop for Scanned {
-    fn drop(self) {
-        let Scanned {
-            store: _,
-            faults: _,
-            sections: _,
-            starred: _,
-        } = self;
-    }
 }
 
 impl Scanner {
@@ -37,16 +26,11 @@ impl Scanner {
     {
         self.leave()?;
         let Scanner {
-            alloc: _,
-            context: _,
             builder,
             faults,
             sections,
             starred,
-            here: _,
-            folded: _,
-            directive: _,
-            solid: _,
+            ..
         } = self;
         let store = builder.finish()?;
         Ok(Scanned {

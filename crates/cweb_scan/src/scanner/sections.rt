@@ -11,8 +11,8 @@ use std::alloc::AllocError;
 impl Scanner {
     ghost use Rattle.cweb_store.specs.Parts.{is_macro};
     ghost use Rattle.cweb_scan.specs.Effects as after;
-    ghost use Rattle.cweb_scan.specs.inner.DirectiveInvariant.{in_open_part};
-    ghost use Rattle.cweb_scan.specs.inner.Room.{HasPartRoom, HasItemRoom};
+    ghost use Rattle.cweb_scan.specs.inner.ScanParts.{in_open_part};
+    ghost use Rattle.cweb_scan.specs.inner.ReaderModel.{HasPartRoom, HasItemRoom};
     ghost use Rattle.cweb_scan.specs.State as spec;
 
     /// Begins a part after its opener, with a Head and a Mark.
@@ -28,8 +28,7 @@ impl Scanner {
         self.solid = Directive::new();
         self.folded = false;
         self.emit(Token::Head(self.sections))?;
-        self.emit(Token::Mark(self.here))?;
-        Ok(())
+        self.emit(Token::Mark(self.here))
     }
 
     /// Ends the open part.

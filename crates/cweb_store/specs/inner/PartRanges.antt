@@ -1,11 +1,15 @@
--- Parts as ranges of one list of tokens.
-use Rattle.std.specs.Prelude.{◌≡◌, ℕ, ◌+◌, ◌≤◌, ◌<◌, List, [], ◌∷◌, Option, Some, None, map, length, drop}
-use Rattle.std.specs.Prelude.{slice_range, option_map, option_to_list, IsSome}
+-- Parts as ranges of one list of tokens, and how calls change the open one.
+use Rattle.std.specs.Prelude.{◌≡◌, ℕ, ◌+◌, ◌≤◌, ◌<◌, List, [], ◌∷◌, Option, Some, None, map, length, drop, slice_range}
+use Rattle.std.specs.Prelude.{option_map, option_to_list, IsSome, ◌++◌, Bool, true, false, filter, take}
 use Rattle.cweb_store.specs.declared.parts.PartRange.{PartRange}
 use Rattle.cweb_store.specs.declared.parts.Open.{Open}
-use Rattle.cweb_store.specs.Parts.{Token, Part}
-use Rattle.cweb_store.specs.Calls.{PartsSoFar}
+use Rattle.cweb_store.specs.Parts.{Token, Part, without_layout, at_close, is_layout, is_newline}
+use Rattle.cweb_store.specs.Calls.{PartsSoFar, part_with_token}
 use Rattle.cweb_names.specs.surface.Names.{too_many}
+use Rattle.cweb_store.specs.declared.parts.PartKind.{PartKind}
+use Rattle.cweb_store.specs.declared.tokens.layout.Trailing.{Trailing}
+use Rattle.cweb_store.specs.surface.Tokens.{token_strings}
+use Rattle.cweb_store.specs.declared.tokens.layout.Trailing.TheVariants as trailing
 
 -- The room for tokens, and for the places of Marks, uses and Defs among them.
 pub record TokenRooms : Type 0 where
@@ -74,3 +78,37 @@ ranges_from n (p ∷ ps) =
 -- The range of the open part if it ends at `after`.
 abbrev pub last_range : Open → ℕ → PartRange
 last_range o after = record { kind = o.kind; part = record { first = o.first; after = after } }
+
+-- No part.
+abbrev pub no_parts : PartsSoFar
+no_parts = record { closed = []; current = None }
+
+-- A new part is open.
+abbrev pub with_opened_part : PartKind → PartsSoFar → PartsSoFar
+with_opened_part kind v = record v { current = Some (record { kind = kind; tokens = [] }) }
+
+-- The open part with one more token.
+abbrev pub with_pushed_token : Token → PartsSoFar → PartsSoFar
+with_pushed_token t v = record v { current = option_map (part_with_token t) v.current }
+
+-- The open part without its trailing layout.
+abbrev pub with_dropped_layout : PartsSoFar → PartsSoFar
+with_dropped_layout v = record v { current = option_map without_layout v.current }
+
+-- The open part is closed.
+abbrev pub with_closed_part : PartsSoFar → PartsSoFar
+with_closed_part v = record { closed = v.closed ++ option_to_list (option_map at_close v.current); current = None }
+
+-- A token that has a string.
+abbrev pub has_string : Token → Bool
+has_string token = elim (token_strings token) [ [] ↦ false | string ∷ strings ↦ true ]
+
+abbrev pub is_trailing : Trailing → Token → Bool
+is_trailing trailing.Layout token = is_layout token
+is_trailing trailing.Newlines token = is_newline token
+
+-- The tokens after the cut have no string, and none of them is before `first`.
+pub record CutsLayout (tokens : List Token) (first after : ℕ) : Type 0 where
+  pub strings : filter has_string (take after tokens) ≡ filter has_string tokens
+  pub begins : first ≤ after
+  pub within : after ≤ length tokens

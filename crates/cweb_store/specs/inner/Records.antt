@@ -1,18 +1,22 @@
--- Tokens as records with string indices, and the places of Marks beside them.
-use Rattle.std.specs.Prelude.{◌≡◌, ◌<◌, ◌≤◌, ℕ, ◌+◌, List, [], ◌∷◌, ◌++◌, length, map}
-use Rattle.std.specs.Prelude.{slice_index_or, filter, bytes_eq}
+-- Tokens as records with string indices, the places of Marks, and the index of uses.
+use Rattle.std.specs.Prelude.{◌≡◌, ◌<◌, ◌≤◌, ℕ, ◌+◌, List, [], ◌∷◌, ◌++◌, length, map, slice_index_or, filter, bytes_eq}
+use Rattle.std.specs.Prelude.{Bool, true, false, Some, slice_get, slice_range, option_map, if◌then◌else◌}
 use Rattle.std.specs.List.{list_any}
 use Rattle.cweb_files.specs.declared.place.Place.{Place}
-use Rattle.cweb_store.specs.Parts as spec
 use Rattle.cweb_texts.specs.inner.StringLists.{string_at, text_bytes}
-use Rattle.cweb_store.specs.inner.Trailing.{has_string}
-use Rattle.cweb_store.specs.surface.TokenStrings.{with_word_of, other_bytes}
+use Rattle.cweb_store.specs.inner.PartRanges.{has_string}
+use Rattle.cweb_store.specs.surface.Tokens.{with_word_of, other_bytes, interned_token_bytes, words_of}
 use Rattle.cweb_texts.specs.inner.StringTables.{StringTableModel, has_word}
 use Rattle.cweb_texts.specs.surface.StringTables.{total}
 use Rattle.cweb_store.specs.declared.tokens.records.Record.{Record}
 use Rattle.cweb_store.specs.declared.tokens.records.Record.TheVariants.{Word, Number, Literal, Verbatim, Punct, Blank}
 use Rattle.cweb_store.specs.declared.tokens.records.Record.TheVariants.{Newline, Join, Defs, Name, Head, Tail, Mark}
+use Rattle.cweb_store.specs.declared.parts.Part.{Part}
+use Rattle.cweb_store.specs.Parts.{Token, is_defs}
+use Rattle.cweb_store.specs.declared.tokens.token_index.TokenIndex.{TokenIndex}
+use Rattle.cweb_store.specs.Parts as spec
 
+-- The place of a Mark with this number.
 abbrev pub place_at : List Place → ℕ → Place
 place_at places number = slice_index_or places number (record { file = record { 0 = 0 }; line = 0 })
 
@@ -82,3 +86,54 @@ pub record InternsToken (old : StringTableModel) (token : spec.Token) (places : 
   pub bytes : length (text_bytes more) + total length old.words
       ≡ total length (with_word_of old.words token) + other_bytes token
   pub few : length more ≤ length (filter has_string (token ∷ []))
+
+-- A use of a name.
+abbrev pub is_name_use : Token → Bool
+is_name_use (spec.Name name) = true
+is_name_use token = false
+
+-- The index of the first passing token of a part, or the end of the part if there is none.
+pub record IsNextNumber (test : Token → Bool) (tokens : List Token) (part : Part) (next : ℕ) : Type 0 where
+  pub begins : part.first ≤ next
+  pub within : next ≤ part.after
+  pub before : list_any test (slice_range tokens part.first next) ≡ false
+  pub found : next < part.after → option_map test (slice_get tokens next) ≡ Some true
+
+-- The indices of the tokens that pass a test, if the first token has index n.
+abbrev pub token_numbers : (Token → Bool) → ℕ → List Token → List ℕ
+token_numbers test n [] = []
+token_numbers test n (t ∷ ts) = let rest = token_numbers test (n + 1) ts in if test t then n ∷ rest else rest
+
+-- The index has exactly the uses and the Defs of the tokens.
+pub record IsTokenIndex (token_index : TokenIndex) (tokens : List Token) : Type 0 where
+  pub uses : token_index.uses.items ≡ token_numbers is_name_use 0 tokens
+  pub defs : token_index.defs.items ≡ token_numbers is_defs 0 tokens
+
+-- The entry of token n, if it needs one, is appended.
+pub record AddsNumber (old : TokenIndex) (n : ℕ) (token : Token) (new : TokenIndex) : Type 0 where
+  pub uses : new.uses.items ≡ old.uses.items ++ token_numbers is_name_use n (token ∷ [])
+  pub defs : new.defs.items ≡ old.defs.items ++ token_numbers is_defs n (token ∷ [])
+
+pub record HasSameEntries (old new : TokenIndex) : Type 0 where
+  pub uses : new.uses.items ≡ old.uses.items
+  pub defs : new.defs.items ≡ old.defs.items
+
+-- The table has exactly the strings of the records. Equal Words and punctuators are stored once.
+pub record AreTokens (kept : StringTableModel) (places : List Place) (records : List Record) : Type 0 where
+  pub numbers : AreRecords (length kept.strings) 0 records (length places)
+  pub words : (q : List ℕ) → has_word kept q ≡ list_any (bytes_eq q) (words_of (tokens_of kept.strings places records))
+  pub bytes : length (text_bytes kept.strings) ≡ interned_token_bytes (tokens_of kept.strings places records)
+  pub few : length kept.strings ≤ length (filter has_string (tokens_of kept.strings places records))
+
+-- The uses and Defs of these tokens are indexed.
+pub record AreIndexedTokens (kept : StringTableModel) (places : List Place) (records : List Record)
+    (token_index : TokenIndex) : Type 0 where
+  pub tokens : AreTokens kept places records
+  pub index : IsTokenIndex token_index (tokens_of kept.strings places records)
+
+-- The strings are those of the records, whose uses and Defs are indexed.
+pub record AreClosed (strings : List (List ℕ)) (places : List Place) (records : List Record)
+    (token_index : TokenIndex) : Type 0 where
+  pub numbers : AreRecords (length strings) 0 records (length places)
+  pub bytes : length (text_bytes strings) ≡ interned_token_bytes (tokens_of strings places records)
+  pub index : IsTokenIndex token_index (tokens_of strings places records)

@@ -5,7 +5,7 @@ ghost use Rattle.cweb_names.specs.surface.Names.{too_many};
 ghost use Rattle.cweb_store.specs.Parts.{all_tokens, has_defs_code};
 ghost use Rattle.cweb_store.specs.inner.PartRanges.{ranges_from};
 ghost use Rattle.cweb_store.specs.Faults.{is_used};
-ghost use Rattle.cweb_store.specs.inner.Links.{AreWithin, flag_of};
+ghost use Rattle.cweb_store.specs.inner.Stored.{AreWithin, flag_of};
 
 use crate::parts::PartRange;
 use crate::tokens::closed::ClosedTokens;

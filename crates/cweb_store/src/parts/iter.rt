@@ -1,7 +1,7 @@
 // Iterates over the parts of a name, the program or the macros.
 
 ghost use Rattle.std.specs.Prelude.{◌≡◌};
-ghost use Rattle.cweb_store.specs.inner.Links.{followed};
+ghost use Rattle.cweb_store.specs.inner.Stored.{followed};
 
 use crate::parts::{Part, PartRange};
 use cweb_names::NameId;
@@ -32,7 +32,7 @@ impl<'a> Model for Parts<'a> {
 
     ghost Value = { List Part };
 
-    ghost use Rattle.cweb_store.specs.inner.Links.{followed};
+    ghost use Rattle.cweb_store.specs.inner.Stored.{followed};
 
     ghost view = { λ s. followed s.ranges.now s.skips.now s.skip };
 }

@@ -1,9 +1,8 @@
 // Links from each part to the next part of its group.
 
-ghost use Rattle.std.specs.Prelude.{◌≡◌, ◌<◌, ◌≤◌, [], length, IfOk};
+ghost use Rattle.std.specs.Prelude.{◌≡◌, ◌<◌, [], length, IfOk};
 ghost use Rattle.cweb_names.specs.surface.Names.{too_many};
-ghost use Rattle.cweb_store.specs.inner.Links.{AreLinked, IsPut, head_of};
-ghost use Rattle.cweb_store.specs.inner.Links.{AreWithin};
+ghost use Rattle.cweb_store.specs.inner.Stored.{AreLinked, IsPut, head_of, AreWithin};
 
 use crate::parts::iter::Wanted;
 use crate::parts::{PartKind, PartRange};

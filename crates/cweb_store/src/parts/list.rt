@@ -2,12 +2,11 @@
 
 ghost use Rattle.std.specs.Prelude.{◌≡◌, ◌<◌, ◌+◌, ◌↔◌, IsSome, IsNone, IsTrue, is_some, OnOk};
 ghost use Rattle.std.specs.Prelude.{OnErr};
-ghost use Rattle.cweb_store.specs.inner.OpenParts.{with_closed_part, with_dropped_layout};
-ghost use Rattle.cweb_store.specs.surface.Growing.{all_parts};
-ghost use Rattle.cweb_store.specs.inner.OpenParts.{no_parts, with_opened_part, with_pushed_token};
-ghost use Rattle.cweb_store.specs.surface.Growing.{part_count, token_count};
-ghost use Rattle.cweb_names.specs.surface.Names.{too_many};
+ghost use Rattle.cweb_store.specs.inner.PartRanges.{with_closed_part, with_dropped_layout};
+ghost use Rattle.cweb_store.specs.inner.PartRanges.{no_parts, with_opened_part, with_pushed_token};
 ghost use Rattle.cweb_store.specs.inner.PartRanges.{last_range};
+ghost use Rattle.cweb_store.specs.surface.Tokens.{all_parts, part_count, token_count};
+ghost use Rattle.cweb_names.specs.surface.Names.{too_many};
 
 use crate::parts::closed::ClosedParts;
 use crate::parts::{Open, Part, PartKind, PartRange};
@@ -45,7 +44,7 @@ impl Model for PartList {
 }
 
 impl PartList {
-    ghost use Rattle.cweb_store.specs.surface.TokenModels.{token_model};
+    ghost use Rattle.cweb_store.specs.surface.Tokens.{token_model};
 
     /// An empty list.
     pub fn new(alloc: Global) -> PartList

@@ -1,12 +1,12 @@
 // The parts of a store: of the program, of a name, and of the macros.
 
-ghost use Rattle.std.specs.Prelude.{◌≡◌, ◌<◌, ◌≤◌, ◌↔◌, length, IsTrue, All};
+ghost use Rattle.std.specs.Prelude.{◌<◌, ◌↔◌, length, IsTrue};
 ghost use Rattle.cweb_names.specs.Names as spec;
-ghost use Rattle.cweb_store.specs.Parts.{all_tokens, is_macro, is_of, is_unnamed, joined_where};
-ghost use Rattle.cweb_store.specs.surface.Parts.{numbers_where, tokens_at};
+ghost use Rattle.cweb_store.specs.Parts.{is_macro, is_of, is_unnamed};
+ghost use Rattle.cweb_store.specs.surface.Tokens.{AreRangesOf};
 ghost use Rattle.cweb_store.specs.Faults.{has_part};
 ghost use Rattle.cweb_names.specs.surface.Names.{too_many};
-ghost use Rattle.cweb_store.specs.inner.Links.{is_wanted};
+ghost use Rattle.cweb_store.specs.inner.Stored.{is_wanted};
 
 use crate::parts::iter::{Parts, Wanted};
 use crate::store::Store;
@@ -15,48 +15,32 @@ use cweb_names::NameId;
 impl Store {
     /// The unnamed parts, which are the program.
     pub fn unnamed(&self) -> Parts<'_>
-        ensures numbers { result ≡ numbers_where is_unnamed self.now.parts }
-        ensures text { tokens_at (all_tokens self.now.parts) result
-            ≡ joined_where is_unnamed self.now.parts }
-        ensures ordered { All (λ p. p.first ≤ p.after) result }
-        ensures within { All (λ p. p.after ≤ length (all_tokens self.now.parts)) result }
+        ensures { AreRangesOf is_unnamed self.now.parts result }
     {
         self.wanted(Wanted::Program)
     }
 
     /// The parts of a name. The iterator is empty exactly if the name has no part.
     pub fn parts(&self, name: NameId) -> Parts<'_>
-        ensures numbers { result
-            ≡ numbers_where (is_of (spec.resolutions self.now.occurrences) name) self.now.parts }
-        ensures text { tokens_at (all_tokens self.now.parts) result
-            ≡ joined_where (is_of (spec.resolutions self.now.occurrences) name) self.now.parts }
+        ensures ranges { AreRangesOf (is_of (spec.resolutions self.now.occurrences) name)
+            self.now.parts result }
         ensures some { IsTrue (has_part (spec.resolutions self.now.occurrences) self.now.parts name)
             ↔ 0 < length result }
-        ensures ordered { All (λ p. p.first ≤ p.after) result }
-        ensures within { All (λ p. p.after ≤ length (all_tokens self.now.parts)) result }
     {
         self.wanted(Wanted::OfName(name))
     }
 
     /// The macro definitions.
     pub fn macros(&self) -> Parts<'_>
-        ensures numbers { result ≡ numbers_where is_macro self.now.parts }
-        ensures text { tokens_at (all_tokens self.now.parts) result
-            ≡ joined_where is_macro self.now.parts }
-        ensures ordered { All (λ p. p.first ≤ p.after) result }
-        ensures within { All (λ p. p.after ≤ length (all_tokens self.now.parts)) result }
+        ensures ranges { AreRangesOf is_macro self.now.parts result }
         ensures few { length result < too_many }
     {
         self.wanted(Wanted::Macros)
     }
 
     fn wanted(&self, wanted: Wanted) -> Parts<'_>
-        ensures numbers { result
-            ≡ numbers_where (is_wanted (spec.resolutions self.now.occurrences) wanted) self.now.parts }
-        ensures text { tokens_at (all_tokens self.now.parts) result
-            ≡ joined_where (is_wanted (spec.resolutions self.now.occurrences) wanted) self.now.parts }
-        ensures ordered { All (λ p. p.first ≤ p.after) result }
-        ensures within { All (λ p. p.after ≤ length (all_tokens self.now.parts)) result }
+        ensures ranges { AreRangesOf (is_wanted (spec.resolutions self.now.occurrences) wanted)
+            self.now.parts result }
         ensures few { length result < too_many }
     {
         let ranges = self.parts.ranges();

@@ -5,10 +5,10 @@ ghost use Rattle.std.specs.Prelude.{Some};
 ghost use Rattle.std.specs.List.{list_any};
 ghost use Rattle.cweb_store.specs.Parts.{is_defs};
 ghost use Rattle.cweb_store.specs.Faults.{is_use};
-ghost use Rattle.cweb_store.specs.inner.Links.{AreWithin, FlagsToo};
-ghost use Rattle.cweb_store.specs.surface.TokenModels.{token_model};
-ghost use Rattle.cweb_store.specs.surface.TokenStrings.{AreInOneList, interned_token_bytes, token_strings};
-ghost use Rattle.cweb_store.specs.inner.Next.{IsNextNumber, is_name_use};
+ghost use Rattle.cweb_store.specs.inner.Stored.{AreWithin, FlagsToo};
+ghost use Rattle.cweb_store.specs.surface.Tokens.{token_model, AreInOneList, interned_token_bytes};
+ghost use Rattle.cweb_store.specs.surface.Tokens.{token_strings};
+ghost use Rattle.cweb_store.specs.inner.Records.{IsNextNumber, is_name_use};
 
 use crate::parts::Part;
 use crate::tokens::Token;
@@ -35,8 +35,7 @@ impl Model for ClosedTokens {
 
     ghost Value = { List spec.Token };
 
-    ghost use Rattle.cweb_store.specs.inner.Records.{tokens_of};
-    ghost use Rattle.cweb_store.specs.inner.ClosedTokens.{AreClosed};
+    ghost use Rattle.cweb_store.specs.inner.Records.{tokens_of, AreClosed};
 
     ghost view = { λ s. tokens_of s.strings s.places.items s.records.items };
 

@@ -3,10 +3,8 @@
 ghost use Rattle.std.specs.Prelude.{◌≡◌, ◌≤◌, ℕ, filter, length, take, drop};
 ghost use Rattle.cweb_store.specs.Parts.{at_close, is_blank, without_blank, without_last_after};
 ghost use Rattle.cweb_store.specs.Parts.{without_layout};
-ghost use Rattle.cweb_store.specs.inner.PartRanges.{open_in};
-ghost use Rattle.cweb_store.specs.inner.Trailing.{CutsLayout, is_trailing};
-ghost use Rattle.cweb_store.specs.inner.Trailing.{has_string};
-ghost use Rattle.cweb_store.specs.surface.TokenModels.{token_model};
+ghost use Rattle.cweb_store.specs.inner.PartRanges.{open_in, CutsLayout, is_trailing, has_string};
+ghost use Rattle.cweb_store.specs.surface.Tokens.{token_model};
 
 use crate::parts::Open;
 use crate::tokens::Token;

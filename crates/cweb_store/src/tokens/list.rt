@@ -3,7 +3,7 @@
 ghost use Rattle.std.specs.Prelude.{◌≡◌, ◌<◌, ◌+◌, ◌++◌, ◌∷◌, [], filter, length, take, Some};
 ghost use Rattle.std.specs.Prelude.{slice_get, OnOk, OnErr};
 ghost use Rattle.cweb_names.specs.surface.Names.{too_many};
-ghost use Rattle.cweb_store.specs.inner.Trailing.{has_string};
+ghost use Rattle.cweb_store.specs.inner.PartRanges.{has_string};
 
 use crate::tokens::Token;
 use crate::tokens::closed::ClosedTokens;
@@ -29,8 +29,7 @@ impl Model for TokenList {
 
     ghost Value = { TokenListModel };
 
-    ghost use Rattle.cweb_store.specs.inner.Records.{tokens_of};
-    ghost use Rattle.cweb_store.specs.inner.ClosedTokens.{AreIndexedTokens};
+    ghost use Rattle.cweb_store.specs.inner.Records.{tokens_of, AreIndexedTokens};
 
     ghost view = { λ s.
         record {
@@ -48,7 +47,7 @@ impl Model for TokenList {
 }
 
 impl TokenList {
-    ghost use Rattle.cweb_store.specs.surface.TokenModels.{token_model};
+    ghost use Rattle.cweb_store.specs.surface.Tokens.{token_model};
 
     /// An empty list.
     pub fn new(alloc: Global) -> TokenList

@@ -3,9 +3,9 @@
 ghost use Rattle.std.specs.Prelude.{◌≡◌, ◌<◌, ◌+◌, ℕ, length, Some, slice_get, IfOk, OnOk, OnErr};
 ghost use Rattle.cweb_names.specs.surface.Names.{too_many};
 ghost use Rattle.cweb_store.specs.inner.Records.{AreRecords, AddsPlace, InternsToken};
-ghost use Rattle.cweb_store.specs.inner.Records.{StringIsWithin, PlaceIsWithin, token_of_record, tokens_of};
-ghost use Rattle.cweb_store.specs.inner.Next.{AddsNumber, HasSameEntries};
-ghost use Rattle.cweb_store.specs.surface.TokenModels.{token_model};
+ghost use Rattle.cweb_store.specs.inner.Records.{StringIsWithin, PlaceIsWithin, token_of_record};
+ghost use Rattle.cweb_store.specs.inner.Records.{tokens_of, AddsNumber, HasSameEntries};
+ghost use Rattle.cweb_store.specs.surface.Tokens.{token_model};
 
 use crate::tokens::Token;
 use crate::tokens::token_index::TokenIndex;

@@ -1,11 +1,10 @@
 // The indices of tokens that are searched for later.
 
-ghost use Rattle.std.specs.Prelude.{◌≡◌, ◌≤◌, [], ℕ, Bool, List, nat_lt, take, vec_capacity};
+ghost use Rattle.std.specs.Prelude.{◌≡◌, ◌≤◌, [], Bool, List, nat_lt, take, vec_capacity};
 ghost use Rattle.std.specs.List.{prefix_len};
 ghost use Rattle.std.specs.List.Sorted.{IsNonDecreasing};
 ghost use Rattle.cweb_store.specs.Parts as spec;
-ghost use Rattle.cweb_store.specs.inner.Next.{IsNextNumber};
-ghost use Rattle.cweb_store.specs.inner.Next.{IsTokenIndex, token_numbers};
+ghost use Rattle.cweb_store.specs.inner.Records.{IsNextNumber, IsTokenIndex, token_numbers};
 
 use crate::parts::Part;
 use std::alloc::Global;

@@ -1,12 +1,10 @@
 // The lists of a token's bytes as slices.
 
-ghost use Rattle.std.specs.Prelude.{◌≡◌, ◌<◌, ◌+◌, List, ℕ, [], length, option_map, slice_get};
-ghost use Rattle.std.specs.Prelude.{Some};
+ghost use Rattle.std.specs.Prelude.{◌≡◌, ◌<◌, List, ℕ, [], length, option_map, slice_get, Some};
 ghost use Rattle.cweb_store.specs.inner.DirectBytes.{direct_bytes};
 ghost use Rattle.cweb_store.specs.Parts as spec;
 ghost use Rattle.cweb_store.specs.inner.Records.{StringIsWithin, token_of_record};
-ghost use Rattle.cweb_texts.specs.inner.Edges.{token_bytes_model};
-ghost use Rattle.cweb_texts.specs.inner.StringLists.{string_at};
+ghost use Rattle.cweb_texts.specs.inner.StringLists.{token_bytes_model, string_at};
 
 use crate::tokens::records::Record;
 use cweb_texts::{Edge, StringSlices, TokenBytes, has_high_byte, punctuator_edge};
@@ -21,7 +19,7 @@ pub struct TokenReader<'a> {
 
 impl<'a> Model for TokenReader<'a> {
     ghost use Rattle.std.specs.Prelude.{List, [], Option, ℕ, length, map};
-    ghost use Rattle.cweb_texts.specs.inner.Edges.{TokenBytesModel};
+    ghost use Rattle.cweb_texts.specs.inner.StringLists.{TokenBytesModel};
     ghost use Rattle.cweb_store.specs.inner.DirectBytes.{direct_bytes};
     ghost use Rattle.cweb_store.specs.inner.Records.{AreRecords, tokens_of};
 

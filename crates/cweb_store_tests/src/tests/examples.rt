@@ -2,7 +2,7 @@
 // the examples also pass if an allocation fails.
 
 ghost use Rattle.std.specs.Prelude.{◌≡◌, ◌≤◌, length, is_some};
-ghost use Rattle.cweb_store.specs.surface.Growing.{part_count, token_count};
+ghost use Rattle.cweb_store.specs.surface.Tokens.{part_count, token_count};
 
 use super::*;
 use calls::{Call, known};

@@ -1,5 +1,5 @@
 // A client of cweb_out.
-ghost use Rattle.std.specs.Prelude.{◌≡◌, ◌<◌, ◌+◌, ◌^◌, length, vec_capacity, true};
+ghost use Rattle.std.specs.Prelude.{◌<◌};
 
 use super::wanted::{holds, same_text};
 use cweb_lines::{MemoryShelf, Merger, Stop};

@@ -1,9 +1,9 @@
 // A client of cweb_print.
-ghost use Rattle.std.specs.Prelude.{◌≡◌, ◌<◌, ◌+◌, ◌^◌, length, vec_capacity, true};
+ghost use Rattle.std.specs.Prelude.{◌≡◌, ◌<◌, vec_capacity, true};
 ghost use Rattle.cweb_lines.specs.OpenedFileNames.{opened_file_names};
-ghost use Rattle.cweb_store.specs.surface.TokenModels.{token_model};
+ghost use Rattle.cweb_store.specs.surface.Tokens.{token_model};
 ghost use Rattle.cweb_out.specs.surface.FrameStacks.{IsFrameStack};
-ghost use Rattle.cweb_print.specs.surface.Printers.{MarkFileIsNamed};
+ghost use Rattle.cweb_print.specs.surface.Printed.{MarkFileIsNamed};
 ghost use Rattle.cweb_print.specs.Printing.{Setting};
 
 use super::outputs::scanned;

@@ -2,7 +2,7 @@
 
 ghost use Rattle.std.specs.Prelude.{◌≡◌, ◌≤◌, ◌<◌, length, slice_index_or};
 ghost use Rattle.std.specs.Int.{w32, w64, from_le_bytes};
-ghost use Rattle.cweb_texts.specs.inner.Keys.{key_of, hash_of, home_bucket_of, key_hash};
+ghost use Rattle.cweb_texts.specs.inner.Words.{key_of, hash_of, home_bucket_of, key_hash};
 
 /// The first bytes of a word and its last bytes, as two numbers. With the length they determine a word of at most
 /// 16 bytes. In the key of a longer word the first number is a hash of all bytes.

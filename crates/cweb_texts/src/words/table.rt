@@ -4,9 +4,8 @@ ghost use Rattle.std.specs.Prelude.{◌≡◌, ◌<◌, ◌≤◌, ◌∷◌, �
 ghost use Rattle.std.specs.Prelude.{slice_get, slice_index_or, IfSome, MatchBool, MatchOption};
 ghost use Rattle.std.specs.Prelude.{vec_capacity, vec_len};
 ghost use Rattle.cweb_texts.specs.declared.words.word.Word.{Word};
-ghost use Rattle.cweb_texts.specs.inner.Chains.{AreChains};
-ghost use Rattle.cweb_texts.specs.inner.Keys.{key_of};
-ghost use Rattle.cweb_texts.specs.inner.Words.{DescribeStrings, FindsString, PushesWord, have_string};
+ghost use Rattle.cweb_texts.specs.inner.Words.{AreChains, key_of, DescribeStrings, FindsString};
+ghost use Rattle.cweb_texts.specs.inner.Words.{PushesWord, have_string};
 
 use crate::strings::StringList;
 use crate::words::key::{Key, home_bucket};
@@ -35,7 +34,7 @@ pub struct WordTable {
 impl Model for WordTable {
     ghost use Rattle.std.specs.Prelude.{List};
     ghost use Rattle.cweb_texts.specs.declared.words.word.Word.{Word};
-    ghost use Rattle.cweb_texts.specs.inner.Chains.{AreChains};
+    ghost use Rattle.cweb_texts.specs.inner.Words.{AreChains};
 
     ghost Value = { List Word };
 

@@ -1,8 +1,7 @@
 // A word of the hash table.
 
 ghost use Rattle.std.specs.Prelude.{◌≡◌, ◌↔◌, true, List, ℕ, bytes_eq, length, IfSome, IsTrue};
-ghost use Rattle.cweb_texts.specs.inner.Keys.{AreBytes, key_of};
-ghost use Rattle.cweb_texts.specs.inner.Words.{DescribesString, word_string};
+ghost use Rattle.cweb_texts.specs.inner.Words.{AreBytes, key_of, DescribesString, word_string};
 
 use crate::strings::StringList;
 use crate::words::key::{KEY_BYTES, Key};

@@ -1,9 +1,19 @@
--- The effect of calls as acts.
-use Rattle.std.specs.Prelude.{ℕ, List, [], Option, Some, None, Result, Ok, Err}
+-- The effect of calls as acts, and the course of `wmerge`.
+use Rattle.std.specs.Prelude.{ℕ, List, [], Option, Some, None, Result, Ok, Err, ◌+◌, ◌<◌, ◌^◌, ◌≡◌, ◌∷◌, IsSome}
 use Rattle.cweb_input.specs.declared.stop.Stop.TheVariants.{LogFault}
-use Rattle.cweb_log.specs.DeviceModels.{Devices, FailedReads}
+use Rattle.cweb_log.specs.DeviceModels.{Devices, FailedReads, contents_of, failed_reads}
 use Rattle.cweb_files.specs.Sinks.{SinkModel}
-use Rattle.cweb_tools.specs.Acts.{Act, Ending, ending, PerformsActs, RunEnds}
+use Rattle.cweb_tools.specs.Acts.{Act, Ending, ending, PerformsActs, RunEnds, FollowsActs}
+use Rattle.cweb_input.specs.declared.stop.Stop.{Stop}
+use Rattle.cweb_input.specs.Include.{names_found, contents_found, World, Found, web_at, change_at}
+use Rattle.cweb_lines.specs.Merge.{started}
+use Rattle.cweb_lines.specs.surface.Halting.{merge}
+use Rattle.cweb_log.specs.CommandLine.{WebNames}
+use Rattle.cweb_tools.specs.Course.{Course, unread, not_there, change_not_there, merging, change_name}
+use Rattle.cweb_tools.specs.MergeActs.{MergeCanCome, merge_acts, merge_devices}
+use Rattle.cweb_files.specs.Shelves.{Observed, ShelfModel}
+use Rattle.cweb_lines.specs.surface.MergerCalls.{BeginsMerge, KnowsReaders, so_far, to_come}
+use Rattle.cweb_lines.specs.declared.merger.Merger.{Merger}
 
 -- The devices of a run.
 abbrev pub at : FailedReads → SinkModel → SinkModel → Devices
@@ -42,3 +52,45 @@ EndsInLog acts expected log log' status =
 abbrev pub EndsInBoth : List Act → ℕ → SinkModel → SinkModel → SinkModel → SinkModel → ℕ → Type 0
 EndsInBoth acts expected out out' log log' status =
     (shelf : FailedReads) → RunEnds acts expected (at shelf out log) (at shelf out' log') status
+
+-- What stopped a call, if anything.
+abbrev pub ending_of : {A : Type 0} → List ℕ → Result A Stop → Option Ending
+ending_of about (Ok x) = None
+ending_of about (Err stop) = Some (ending stop about)
+
+-- Each of two failure counts has room for one more failure.
+pub record SinkCountsFit (first second : ℕ) : Type 0 where
+  pub out : first + 1 < 2 ^ 64
+  pub log : second + 1 < 2 ^ 64
+
+-- The course of a merge, from what was found of its web and its change file.
+abbrev pub found_course : World → WebNames → Option Found → Option (Option Found) → Course
+found_course world names None changes = not_there names.web
+found_course world names (Some web) None = change_not_there (change_name names.change)
+found_course world names (Some web) (Some change) =
+    merging (web.0 ∷ names_found change) (merge world (started web.1 (contents_found change)))
+
+abbrev pub merge_course : World → Option WebNames → Course
+merge_course world None = unread
+merge_course world (Some names) =
+    found_course world names (web_at world.texts names.web names.second) (change_at world.texts names.change)
+
+-- A run of `wmerge` does the acts of its course.
+abbrev pub EndsMerge : Option WebNames → Course → Devices → Devices → ℕ → Type 0
+EndsMerge args course before after status =
+    FollowsActs merge_acts (MergeCanCome args) (λ taken. taken ≡ course) (merge_devices before) (merge_devices after)
+    status
+
+-- The merge of the files that were found begins.
+pub record MergeHasBegun {S R : Type 0} (shelf : ShelfModel R) (merger : Merger S R) (world : World)
+    (found : Option Found) (changes : Option (Option Found)) : Type 0 where
+  pub begins : IsSome (failed_reads shelf).blamed
+      → BeginsMerge world found changes (so_far merger) (to_come (contents_of shelf) merger)
+  pub known : Observed shelf (λ seen. KnowsReaders seen merger)
+
+-- Whatever was found, a run of `wmerge` ends as its course does.
+abbrev pub MergesBegun : {S R : Type 0} → ShelfModel R → Merger S R → SinkModel → SinkModel → Devices → ℕ → Type 0
+MergesBegun shelf merger out log after status =
+    (names : WebNames) (world : World) (found : Option Found) (changes : Option (Option Found))
+    → MergeHasBegun shelf merger world found changes
+    → EndsMerge (Some names) (found_course world names found changes) (at (failed_reads shelf) out log) after status

@@ -1,20 +1,14 @@
 -- The state of an expander between outputs, and the files of its plan.
-use Rattle.std.specs.Prelude.{◌≡◌, ℕ, List, ◌++◌, All, length, map, vec_capacity, Option, Some, None, Result}
-use Rattle.std.specs.Prelude.{Ok, Err}
+use Rattle.std.specs.Prelude.{◌≡◌, ℕ, List, All, length, map, vec_capacity, Option, Some, None, Result, Ok, Err}
 use Rattle.cweb_files.specs.Files.{File}
-use Rattle.cweb_files.specs.Sinks.{SinkModel, written}
 use Rattle.cweb_input.specs.surface.OpenedFileNames.{opened_file_names}
 use Rattle.cweb_input.specs.declared.files.FileNames.{FileNames}
 use Rattle.cweb_store.specs.Parts.{Token, all_tokens}
 use Rattle.cweb_scan.specs.surface.Scan.{IsMarkBelow}
-use Rattle.cweb_print.specs.surface.Classes.{left_after_tokens}
 use Rattle.cweb_out.specs.surface.FrameStacks.{IsFrameStack, left}
 use Rattle.cweb_out.specs.surface.Outputs.{IsPlanOf, output_name_at, output_at}
 use Rattle.cweb_out.specs.Outputs.{Output}
-use Rattle.cweb_print.specs.surface.Printed.{left_in_printer, setting_of}
-use Rattle.cweb_print.specs.Printing.{setting, print}
 use Rattle.cweb_out.specs.declared.expander.Expander.{Expander}
-use Rattle.cweb_print.specs.declared.printer.Printer.{Printer}
 use Rattle.cweb_tools.specs.Acts.{Ending, ending}
 use Rattle.cweb_tools.specs.Tangle.{output_file}
 use Rattle.cweb_tools.specs.declared.outputs.Failed.{Failed}
@@ -47,13 +41,3 @@ planned_files names e = map (output_file e.store.now (opened_file_names names)) 
 abbrev pub output_ending : {A : Type 0} → List Output → Result A Failed → Option Ending
 output_ending outputs (Ok x) = None
 output_ending outputs (Err failed) = Some (ending failed.stop (output_name_at outputs failed.output))
-
--- Some of the remaining tokens are printed. The sink has a prefix of their bytes, and the buffer the rest.
-pub record PrintsSoFar (files : List (List ℕ)) (first now : Expander) (printer : Printer) (old new : SinkModel)
-    (buffer : List ℕ) : Type 0 where
-  pub ready : StaysReady first now
-  pub setting_is : setting_of printer ≡ setting first.store.now files
-  pub done : List Token
-  pub whole : left_in first ≡ done ++ left_in now
-  pub kept : left_after_tokens done ≡ left_in_printer printer
-  pub wrote : written buffer new ≡ written (print (setting first.store.now files) done) old

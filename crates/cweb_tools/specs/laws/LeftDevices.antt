@@ -1,5 +1,5 @@
--- What a run leaves in bins and shelf, however it ends.
-use Rattle.std.specs.Prelude.{◌≡◌, ◌≢◌, ◌⊎◌, ℕ, List, ◌++◌, codes, Option, Some, None}
+-- What a run leaves in bins and shelf, however it ends, and the targets of `wdep`.
+use Rattle.std.specs.Prelude.{◌≡◌, ◌≢◌, ◌⊎◌, ℕ, List, ◌++◌, codes, Option, Some, None, Bool, map}
 use Rattle.std.specs.Option.{option_and_then}
 use Rattle.cweb_files.specs.declared.bins.BinFault.{BinFault}
 use Rattle.cweb_input.specs.Include.{World}
@@ -7,14 +7,18 @@ use Rattle.cweb_log.specs.CommandLine.{OptionsModel, WebNames}
 use Rattle.cweb_log.specs.DeviceModels.{Devices, FailedReads}
 use Rattle.cweb_files.specs.Sinks.{SinkContents, SinkModel, appended}
 use Rattle.cweb_log.specs.Log.{message_line}
-use Rattle.cweb_tools.specs.Acts.{Act, blaming}
-use Rattle.cweb_tools.specs.Depend.{DependPromises}
+use Rattle.cweb_tools.specs.Acts.{Act, blaming, acts_status}
+use Rattle.cweb_tools.specs.Depend.{DependPromises, among_outputs, depend_acts}
 use Rattle.cweb_tools.specs.declared.rule_targets.Targets.{Targets}
-use Rattle.cweb_tools.specs.Headline.{written_files}
+use Rattle.cweb_tools.specs.Headline.{written_files, printed_bytes}
 use Rattle.cweb_tools.specs.MergeActs.{MergePromises}
-use Rattle.cweb_tools.specs.Script.{script}
+use Rattle.cweb_tools.specs.Script.{script, TangleCourse, Web, planned, tangling}
 use Rattle.cweb_tools.specs.Tangle.{shown_by, TanglePromises}
-use Rattle.cweb_tools.specs.laws.Leaves.{HasReadAll, LeavesFiles}
+use Rattle.cweb_tools.specs.laws.RunEffects.{HasReadAll, LeavesFiles, tangle_files, tangle_status}
+use Rattle.cweb_files.specs.Files.{File}
+use Rattle.cweb_lines.specs.Events.{Event}
+use Rattle.cweb_log.specs.declared.shown.Shown.{Shown}
+use Rattle.cweb_tools.specs.Depfile.{depfile, each_once}
 
 -- The name of the draft of an output, if one is open.
 abbrev pub draft_in : SinkModel → Option (List ℕ)
@@ -69,3 +73,14 @@ pub record EveryRunLeavesTheShelf : Type 0 where
   pub depend : (world : World) (targets : Targets) (args : Option OptionsModel) (before after : Devices) (status : ℕ)
       → DependPromises world targets args before after status
       → LeavesShelf before.shelf after.shelf before.log after.log status
+
+-- If `ctangle` has a plan, the targets are the names of the files that it writes, or the first of them. The option
+-- changes nothing else: the prerequisites are the same. In any case the status is that of `ctangle`.
+pub record TargetsAreWrittenFiles : Type 0 where
+  pub targets : (shown : Shown) (targets : Targets) (files : List (List ℕ)) (events : List Event) (web : Web)
+      (outputs : List File) (missing : Bool) → web.plan ≡ planned outputs missing
+      → printed_bytes (depend_acts targets (tangling files events web))
+      ≡ depfile (among_outputs targets (map (λ file. file.name) (tangle_files shown (tangling files events web))))
+      (each_once files)
+  pub status : (shown : Shown) (targets : Targets) (course : TangleCourse)
+      → acts_status (depend_acts targets course) ≡ tangle_status shown course

@@ -1,23 +1,54 @@
 -- Laws of whole runs. Each follows from the definition of how a run ends.
-use Rattle.std.specs.Prelude.{fold, ◌≡◌, ◌≢◌, ◌≤◌, ◌⊎◌, ℕ, ◌+◌, List, ◌++◌, Option, IsSome, option_map}
-use Rattle.std.specs.List.{flat_map}
-use Rattle.cweb_files.specs.Files.{File, put_file}
-use Rattle.cweb_input.specs.Include.{World}
+use Rattle.std.specs.Prelude.{fold, ◌≡◌, ℕ, List, ◌++◌, option_map, ◌≢◌, ◌≤◌, ◌⊎◌, ◌+◌, Option, IsSome}
+use Rattle.cweb_files.specs.Files.{put_file, File}
 use Rattle.cweb_input.specs.declared.stop.Stop.{Stop}
-use Rattle.cweb_input.specs.declared.stop.Stop.TheVariants.{LogFault}
+use Rattle.cweb_input.specs.declared.stop.Stop.TheVariants.{OutNotOpened, ReadFault, WriteFault, LogFault}
+use Rattle.cweb_log.specs.DeviceModels.{Devices, Logs}
+use Rattle.cweb_files.specs.Sinks.{SinkModel, appended}
+use Rattle.cweb_log.specs.declared.shown.Shown.{Shown}
+use Rattle.cweb_tools.specs.Acts.{Act, acts_status, logged_items}
+use Rattle.cweb_tools.specs.Headline.{ActsKeepLimits, files_in, written_files, printed_bytes}
+use Rattle.cweb_tools.specs.Script.{TangleCourse, script}
+use Rattle.std.specs.List.{flat_map}
+use Rattle.cweb_input.specs.Include.{World}
 use Rattle.cweb_log.specs.Items.{LogItem, line}
 use Rattle.cweb_log.specs.Log.{stop_line}
 use Rattle.cweb_log.specs.CommandLine.{OptionsModel, WebNames}
-use Rattle.cweb_log.specs.DeviceModels.{Devices, Logs}
-use Rattle.cweb_files.specs.Sinks.{SinkModel, appended}
 use Rattle.cweb_files.specs.surface.Writes.{WritesPrefix}
-use Rattle.cweb_tools.specs.Acts.{Act, logged_items}
 use Rattle.cweb_tools.specs.Course.{Course, IsMergeCourse}
-use Rattle.cweb_tools.specs.Headline.{ActsKeepLimits, files_in, printed_bytes, written_files}
 use Rattle.cweb_tools.specs.MergeActs.{MergePromises, merge_acts, merge_devices}
-use Rattle.cweb_tools.specs.Script.{script}
 use Rattle.cweb_tools.specs.Tangle.{shown_by, TanglePromises}
-use Rattle.cweb_tools.specs.laws.Leaves.{HasReadAll, LeavesFiles, bins_blame, read_failures_of, tangle_status}
+
+-- The files of a whole run.
+abbrev pub tangle_files : Shown → TangleCourse → List File
+tangle_files shown course = written_files (script shown course)
+
+-- The status of a whole run.
+abbrev pub tangle_status : Shown → TangleCourse → ℕ
+tangle_status shown course = acts_status (script shown course)
+
+-- The first of the expected files were committed, in order, each whole. All others are unchanged.
+pub record LeavesFiles (expected : List File) (old new : SinkModel) : Type 0 where
+  pub done : List File
+  pub undone : List File
+  pub whole : expected ≡ done ++ undone
+  pub is : files_in new ≡ option_map (λ (files : List File). fold put_file files done) (files_in old)
+
+-- No read failed, and all lines were within the limits.
+pub record HasReadAll (acts : List Act) (before after : Devices) : Type 0 where
+  pub shelf : after.shelf.failed ≡ before.shelf.failed
+  pub within : ActsKeepLimits acts
+
+-- The increase of the shelf's failure count at a stop.
+abbrev pub read_failures_of : Stop → ℕ
+read_failures_of (ReadFault file) = 1
+read_failures_of _ = 0
+
+-- The increase of the bins' failure count at a stop.
+abbrev pub bins_blame : Stop → ℕ
+bins_blame OutNotOpened = 1
+bins_blame WriteFault = 1
+bins_blame _ = 0
 
 -- All acts were done: the files were committed, the items logged, and the status is `expected`.
 pub record DoesAll (acts : List Act) (expected : ℕ) (old new : Devices) (status : ℕ) : Type 0 where

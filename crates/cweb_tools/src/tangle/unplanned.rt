@@ -1,6 +1,6 @@
 // The end of a run of `ctangle` without a plan.
-ghost use Rattle.std.specs.Prelude.{◌≡◌, ◌<◌, ◌+◌, ◌^◌, ◌∷◌, IfSome};
-ghost use Rattle.cweb_scan.specs.surface.ScannedModel.{scanned_model};
+ghost use Rattle.std.specs.Prelude.{◌<◌, ◌+◌, ◌^◌, ◌∷◌, IfSome};
+ghost use Rattle.cweb_scan.specs.surface.Scan.{scanned_model};
 ghost use Rattle.cweb_out.specs.Outputs.{planned};
 ghost use Rattle.cweb_out.specs.surface.Outputs.{IsExpectedFault};
 ghost use Rattle.cweb_log.specs.Items.{refusal_message};
@@ -8,11 +8,11 @@ ghost use Rattle.cweb_tools.specs.Acts.{plans};
 ghost use Rattle.cweb_tools.specs.inner.Does.{EndsInLog};
 ghost use Rattle.cweb_tools.specs.Script.{planned_acts, refused};
 ghost use Rattle.cweb_tools.specs.Tangle.{numbers_of, planning};
-ghost use Rattle.cweb_tools.specs.inner.Tangle.{fault_count, status_by};
-ghost use Rattle.cweb_tools.specs.inner.Web.{faults_of, files_of, refusal_in};
+ghost use Rattle.cweb_tools.specs.inner.Tangle.{fault_count, status_by, faults_of, files_of};
+ghost use Rattle.cweb_tools.specs.inner.Tangle.{refusal_in};
 
 use crate::saying::say_end;
-use crate::web::{Numbers, Web};
+use crate::web::Web;
 use cweb_lines::{Sink, Stop};
 use cweb_log::{LogText, Shown, log_stop, write_log};
 use cweb_out::PlanFault;
@@ -44,28 +44,11 @@ pub fn tangle_unplanned<L: Sink>(
     if let PlanFault::Memory = fault {
         return log_stop(log, Stop::Memory, "");
     }
-    tangle_refused(shown, main, web, fault, log)
-}
-
-/// Logs why there is no plan, which is one more fault, and ends the run. Nothing is written.
-fn tangle_refused<L: Sink>(
-    shown: Shown,
-    main: &str,
-    web: Web<'_>,
-    fault: PlanFault,
-    log: &mut L,
-) -> u8
-    requires { (L.model log.old).failed + 1 < 2 ^ 64 }
-    ensures { IfSome (refusal_in fault) (λ refusal. EndsInLog
-        (planned_acts shown
-        (numbers_of (scanned_model web.entry.scanned.now)) (fault_count (faults_of web.entry))
-        (refused (refusal_message web.entry.scanned.now.store main.now refusal)))
-        1 (L.model log.old) (L.model log.new) result) }
-{
+    // Why there is no plan is one more fault. Nothing is written.
     if let Err(_) = write_log(log, LogText::unplanned(web.store(), &fault, main)) {
         return 1;
     }
     let count = web.fault_count() + 1;
-    let _ = say_end(shown, Numbers::of(web.scanned), count, false, log);
+    let _ = say_end(shown, web.scanned, count, false, log);
     1
 }

@@ -1,3 +1,4 @@
+use Rattle.cweb_input.proofs.Errors.{same_error}
 use Rattle.cweb_lines.proofs.Common.{rules, ◌≡◌, Some, [], Ok, Err, Line, refl, sym, ◌∙◌, Writes, BuffersLines, HasWritten, events_to_come, so_far_of, to_come, so_far}
 use Rattle.cweb_lines.proofs.ReportsOnlyGrow.{grows_reported, reported_same}
 use Rattle.cweb_lines.proofs.BufferedWrites.{failed_next, failed_same, held, held_on, fails_prefix, fails_among, printed_all, printed_before, printed_none, printed_then, written_on}
@@ -7,7 +8,7 @@ use Rattle.cweb_lines.proofs.WrittenLinesAddUp.{nothing_yet, written_by, written
 use Rattle.cweb_lines.proofs.WriteStops.{blames_own, blames_write, memory_failed, memory_write, none_before}
 use Rattle.cweb_lines.proofs.writing.write_merged_in_chunks.Given as given
 use Rattle.cweb_lines.proofs.writing.write_merged_in_chunks.Goals as goal
-use Rattle.cweb_lines.proofs.writing.write_merged_in_chunks.Goals.{After-pass_lines-passed, In-Ok, In_default-write_all}
+use Rattle.cweb_lines.proofs.writing.write_merged_in_chunks.Goals.{After-pass_lines-passed, In_ok-next_line, In_default-write_all}
 
 pub lines-init : goal.lines-init
 lines-init g c = record {
@@ -18,14 +19,18 @@ lines-init g c = record {
   written = λ seen it. nothing_yet _ _ _;
 }
 
-quiet : (g : given.Over) (c : In-Ok g) → Quiet (g.S.Shelf.model c.args.shelf.now)
+quiet : (g : given.Over) (c : In_ok-next_line g) → Quiet (g.S.Shelf.model c.args.shelf.now)
     (g.S.Shelf.model c.next_line.new.shelf) c.args.merger.now.run
     c.next_line.new.self.run
 quiet g c = reads_then c.lines.invariant.quiet (record {
-  shelf = (c.in-Ok.ensures.blames c.lines.invariant.running).reads;
+  shelf = (c.in_ok-next_line.ensures.blames c.lines.invariant.running).reads;
   readers = λ seen it known.
-      let stays = c.in-Ok.ensures.known seen it known in (stays.readers, stays.blamed c.lines.invariant.running);
-  still = c.in-Ok.ensures.grows.reported;
+      let stays = c.in_ok-next_line.ensures.known seen it known in (
+        stays.readers,
+        stays.blamed
+            c.lines.invariant.running,
+      );
+  still = c.in_ok-next_line.ensures.grows.reported;
 })
 
 more : (g : given.Over) (c : After-pass_lines-passed g) (seen : ShelfContents g.row.S-R.Denot)
@@ -34,8 +39,8 @@ more : (g : given.Over) (c : After-pass_lines-passed g) (seen : ShelfContents g.
     (to_come seen c.args.merger.now) (events_to_come seen.texts seen.left c.pass_lines-passed.new.self.run)
     (Writes (g.W.Sink.model c.args.out.now) (g.W.Sink.model c.lines.out)) c.pass_lines-passed.new.buffer.items
 more g c seen it =
-    let next = rw c.in-Some-next.is at (c.in-Ok.ensures.next seen (still_seen c.lines.invariant.quiet it)) in
-    let line : Line = record { bytes = c.next_line.new.line.items; place = c.in-Some-next.field-0 } in
+    let next = rw c.in-Some-2.is at (c.in_ok-next_line.ensures.next seen (still_seen c.lines.invariant.quiet it)) in
+    let line : Line = record { bytes = c.next_line.new.line.items; place = c.in-Some-2.field-0 } in
     let passes = c.pass_lines-passed.ensures.passes in
     held_on _ _ _ _ _ _ _ (held _ _ _ _ _ _ (c.lines.invariant.written seen it) line _ _ next _
     c.in_default-push.ensures.items) passes.lines _ _
@@ -57,9 +62,9 @@ returns-in-Some g c = record {
   again = search rules;
 }
 
-pub returns-in-Err : goal.returns-in-Err
-returns-in-Err g c =
-    let next = c.in-Err.ensures in
+pub returns-in_err-next_line : goal.returns-in_err-next_line
+returns-in_err-next_line g c =
+    let next = c.in_err-next_line.ensures in
     let blames = next.blames c.lines.invariant.running in
     let reads = reads_then c.lines.invariant.quiet (record {
       shelf = blames.reads;
@@ -67,7 +72,7 @@ returns-in-Err g c =
           let stays = next.known seen it known in (stays.readers, stays.blamed c.lines.invariant.running);
       still = next.grows.reported;
     }) in
-    record {
+    rw (same_error _ _ c.from_residual.ensures.1) (record {
       printed = printed_all c.lines.invariant.printed;
       grows = record { reported = reads.still; lines = next.grows.lines; bytes = next.grows.bytes };
       ok = λ _ _. tt;
@@ -77,26 +82,26 @@ returns-in-Err g c =
           let written = c.lines.invariant.written seen it in
           let there = next.stops seen (still_seen c.lines.invariant.quiet it) c.lines.invariant.running in
           record {
-            why = written_by _ _ _ _ _ _ written c.in-Err.stop _ there.why;
+            why = written_by _ _ _ _ _ _ written c.in_err-next_line.field-0.0 _ there.why;
             reported = tells_more _ _ _ _ _ _ written.yields there.reported;
           };
       fault = search rules;
       reads = λ before. reads.shelf;
-      blames = λ before. blames_own c.in-Err.stop _ _ _ _ blames.reading next.leaves.kept next.leaves.named
-          (failed_same c.lines.invariant.printed);
-      known = stays_known (Err c.in-Err.stop) reads;
+      blames = λ before. blames_own c.in_err-next_line.field-0.0 _ _ _ _ blames.reading next.leaves.kept
+          next.leaves.named (failed_same c.lines.invariant.printed);
+      known = stays_known (Err c.in_err-next_line.field-0.0) reads;
       again = none_before _ c.lines.invariant.before;
-    }
+    })
 
-pub returns-in_default-next : goal.returns-in_default-next
-returns-in_default-next g c =
-    let q = quiet g (goal.at.returns-in_default-next g c).In-Ok in
+pub returns-in_default-2 : goal.returns-in_default-2
+returns-in_default-2 g c =
+    let q = quiet g (goal.at.returns-in_default-2 g c).In_ok-next_line in
     record {
       printed = printed_all c.lines.invariant.printed;
       grows = grows_reported c.next_line.new.self.run q.still;
       ok = λ seen it.
-          let last = rw c.in_default-next.is at
-          (c.in-Ok.ensures.next seen (still_seen c.lines.invariant.quiet it)) in
+          let last = rw c.in_default-2.is at
+          (c.in_ok-next_line.ensures.next seen (still_seen c.lines.invariant.quiet it)) in
           written_whole _ _ _ _ _ _ (c.lines.invariant.written seen it) _ _ last.0 last.1;
       ended = search rules;
       prefix = search rules;
@@ -108,10 +113,10 @@ returns-in_default-next g c =
       again = none_before _ c.lines.invariant.before;
     }
 
-pub returns-in-Err-push : goal.returns-in-Err-push
-returns-in-Err-push g c =
-    let is_memory = c.halt.ensures.stop c.in-Ok.ensures.leaves.running in
-    let reads = reads_then (quiet g (goal.at.returns-in-Err-push g c).In-Ok)
+pub returns-in-Err : goal.returns-in-Err
+returns-in-Err g c =
+    let is_memory = c.halt.ensures.stop c.in_ok-next_line.ensures.leaves.running in
+    let reads = reads_then (quiet g (goal.at.returns-in-Err g c).In_ok-next_line)
     (reads_halted c.halt.ensures.readers c.halt.ensures.so_far is_memory) in
     record {
       printed = printed_all c.lines.invariant.printed;
@@ -121,8 +126,8 @@ returns-in-Err-push g c =
       prefix = λ seen it. written_prefix _ _ _ _ _ _ (c.lines.invariant.written seen it);
       stops = λ seen it before.
           let written = c.lines.invariant.written seen it in
-          let next = rw c.in-Some-next.is at
-          (c.in-Ok.ensures.next seen (still_seen c.lines.invariant.quiet it)) in
+          let next = rw c.in-Some-2.is at
+          (c.in_ok-next_line.ensures.next seen (still_seen c.lines.invariant.quiet it)) in
           record {
             why = memory_failed _ _ _ _ _ is_memory (written_some _ _ _ _ _ _ written);
             reported = tells_same _ _ _ _ c.halt.ensures.so_far (tells_more _ _ _ _ _ _ written.yields
@@ -140,7 +145,7 @@ pub returns-in-Err-write_all : goal.returns-in-Err-write_all
 returns-in-Err-write_all g c =
     let at = goal.at.returns-in-Err-write_all g c in
     let passes = c.pass_lines-passed.ensures.passes in
-    let q = reads_then (quiet g at.In-Ok) (reads_passed passes) in
+    let q = reads_then (quiet g at.In_ok-next_line) (reads_passed passes) in
     let err = rw c.deref.ensures.value at c.in-Err-write_all.ensures.wrote in
     record {
       printed = printed_before c.lines.invariant.printed err;
@@ -156,7 +161,7 @@ returns-in-Err-write_all g c =
       fault = λ seen it before is. fails_among _ _ _ _ _ _ _ _
           (more g at.After-pass_lines-passed seen it) (g.W.Sink.model c.write_all.new.out) err;
       reads = λ before. (λ file. [], q.shelf.1);
-      blames = λ before. blames_write _ _ _ _ (passes.stopped ∙ c.in-Ok.ensures.leaves.running)
+      blames = λ before. blames_write _ _ _ _ (passes.stopped ∙ c.in_ok-next_line.ensures.leaves.running)
           (failed_next c.lines.invariant.printed err);
       known = λ seen it known.
           let stays = q.readers seen it known in record { readers = stays.0; blamed = λ before. stays.1 };
@@ -177,8 +182,8 @@ returns-in-Err-passed g c =
     let at = goal.at.returns-in-Err-passed g c in
     let passes = c.pass_lines-passed.ensures.passes in
     let halted = c.halt-in-Err-passed.ensures in
-    let is_memory = halted.stop (passes.stopped ∙ c.in-Ok.ensures.leaves.running) in
-    let reads = reads_then (reads_then (quiet g at.In-Ok) (reads_passed passes))
+    let is_memory = halted.stop (passes.stopped ∙ c.in_ok-next_line.ensures.leaves.running) in
+    let reads = reads_then (reads_then (quiet g at.In_ok-next_line) (reads_passed passes))
     (reads_halted halted.readers halted.so_far is_memory) in
     record {
       printed = printed_all (printed_then _ c.lines.invariant.printed c.in_default-write_all.ensures.wrote);
@@ -205,9 +210,9 @@ lines-preserved g c =
     let at = goal.at.lines-preserved g c in
     let passes = c.pass_lines-passed.ensures.passes in
     record {
-      quiet = reads_then (quiet g at.In-Ok) (reads_passed passes);
+      quiet = reads_then (quiet g at.In_ok-next_line) (reads_passed passes);
       printed = printed_then _ c.lines.invariant.printed c.in_default-write_all.ensures.wrote;
-      running = passes.stopped ∙ c.in-Ok.ensures.leaves.running;
+      running = passes.stopped ∙ c.in_ok-next_line.ensures.leaves.running;
       before = c.lines.invariant.before;
       written = λ seen it. wrote g at.In_default-write_all seen it;
     }

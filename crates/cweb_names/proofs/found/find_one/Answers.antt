@@ -6,8 +6,7 @@ pub returns-in_default : goal.returns-in_default
 returns-in_default c =
     grind (
       arith,
-      names_decide c.args.prefix.now c.new.result c.args.sorted.now.entries c.range-range.result
-          (c.range-range.ensures.between tt) c.new.ensures c.range-range.ensures.ordered,
+      names_decide _ _ _ _ (c.range-range.ensures.between tt) c.new.ensures c.range-range.ensures.ordered,
       c.in_default.ensures.steps.0,
     )
 
@@ -15,8 +14,7 @@ pub returns-then-not-starts_with : goal.returns-then-not-starts_with
 returns-then-not-starts_with c =
     grind (
       arith,
-      names_decide c.args.prefix.now c.new.result c.args.sorted.now.entries c.range-range.result
-          (c.range-range.ensures.between tt) c.new.ensures c.range-range.ensures.ordered,
+      names_decide _ _ _ _ (c.range-range.ensures.between tt) c.new.ensures c.range-range.ensures.ordered,
       c.in-Some.ensures.steps,
       c.spelling.ensures,
       c.starts_with.ensures.value,
@@ -28,8 +26,7 @@ pub returns-in_default-next : goal.returns-in_default-next
 returns-in_default-next c =
     grind (
       arith,
-      names_decide c.args.prefix.now c.new.result c.args.sorted.now.entries c.range-range.result
-          (c.range-range.ensures.between tt) c.new.ensures c.range-range.ensures.ordered,
+      names_decide _ _ _ _ (c.range-range.ensures.between tt) c.new.ensures c.range-range.ensures.ordered,
       c.in-Some.ensures.steps,
       c.in_default-next.ensures.steps.0,
       c.spelling.ensures,
@@ -41,8 +38,7 @@ pub returns-then-starts_with : goal.returns-then-starts_with
 returns-then-starts_with c =
     grind (
       arith,
-      names_decide c.args.prefix.now c.new.result c.args.sorted.now.entries c.range-range.result
-          (c.range-range.ensures.between tt) c.new.ensures c.range-range.ensures.ordered,
+      names_decide _ _ _ _ (c.range-range.ensures.between tt) c.new.ensures c.range-range.ensures.ordered,
       c.in-Some.ensures.steps,
       c.in-Some-next.ensures.steps,
       c.spelling.ensures,
@@ -57,8 +53,7 @@ pub returns-else-starts_with : goal.returns-else-starts_with
 returns-else-starts_with c =
     grind (
       arith,
-      names_decide c.args.prefix.now c.new.result c.args.sorted.now.entries c.range-range.result
-          (c.range-range.ensures.between tt) c.new.ensures c.range-range.ensures.ordered,
+      names_decide _ _ _ _ (c.range-range.ensures.between tt) c.new.ensures c.range-range.ensures.ordered,
       c.in-Some.ensures.steps,
       c.in-Some-next.ensures.steps,
       c.spelling.ensures,

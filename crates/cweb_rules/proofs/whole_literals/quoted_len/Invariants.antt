@@ -1,5 +1,5 @@
 use Rattle.cweb_rules.proofs.Common.{◌≡◌, ◌≤◌, ◌-◌, length, reach, look_in_literal, IsLine, reached, Open}
-use Rattle.cweb_rules.specs.inner.Quotes.{quote_byte}
+use Rattle.cweb_rules.specs.inner.WholeLiterals.{quote_byte}
 use Rattle.cweb_rules.proofs.Ranges.{later_by}
 use Rattle.cweb_rules.proofs.whole_literals.quoted_len.Given as goal
 

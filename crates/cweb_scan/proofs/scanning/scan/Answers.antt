@@ -8,29 +8,29 @@ use Rattle.cweb_scan.proofs.scanning.scan.Goals as goal
 pub returns-in-Ok-clause-scans : goal.returns-in-Ok-clause-scans
 returns-in-Ok-clause-scans g c =
     λ seen it. subst (λ (s : Scanned). Scans s (so_far c.args.merger.now) (so_far c.take_lines.new.merger) (to_come
-    seen c.args.merger.now)) (sym c.in-Ok.ensures) (c.in_default-take_lines.ensures.scans seen it)
+    seen c.args.merger.now)) (sym c.in-Ok.ensures) (c.in_ok-take_lines.ensures.scans seen it)
 
 pub returns-in-Ok-clause-within : goal.returns-in-Ok-clause-within
 returns-in-Ok-clause-within g c = subst (λ (s : Scanned). ScansWithinLimits (so_far c.take_lines.new.merger) s)
-    (sym c.in-Ok.ensures) c.in_default-take_lines.ensures.within
+    (sym c.in-Ok.ensures) c.in_ok-take_lines.ensures.within
 
 -- The allocation of the store failed.
 pub returns-clause-grows : goal.returns-clause-grows
-returns-clause-grows g c = grows_to _ _ _ c.halt.ensures.so_far c.in_default-take_lines.ensures.grows
+returns-clause-grows g c = grows_to _ _ _ c.halt.ensures.so_far c.in_ok-take_lines.ensures.grows
 
 pub returns-clause-stops : goal.returns-clause-stops
 returns-clause-stops g c = λ seen it before.
-    let taken = c.in_default-take_lines.ensures in
+    let taken = c.in_ok-take_lines.ensures in
     subst (λ (stop : Stop). ScanEndsEarly stop (so_far c.args.merger.now) (so_far c.halt.new.self)
     (to_come seen c.args.merger.now)) (sym (c.halt.ensures.stop taken.ended.0))
     (refused _ _ _ _ _ _ c.halt.ensures.so_far (taken.scans seen it).yields)
 
 pub returns-clause-reads : goal.returns-clause-reads
 returns-clause-reads g c = λ before.
-    let taken = c.in_default-take_lines.ensures in
+    let taken = c.in_ok-take_lines.ensures in
     (λ file. [], unread {A = Unit {0}} (Err c.halt.result) _ taken.reads.1 (c.halt.ensures.stop taken.ended.0))
 
 pub returns-clause-blamed : goal.returns-clause-blamed
 returns-clause-blamed g c = λ seen it known before.
-    let taken = c.in_default-take_lines.ensures in
+    let taken = c.in_ok-take_lines.ensures in
     unread {A = Unit {0}} (Err c.halt.result) _ taken.reads.1 (c.halt.ensures.stop taken.ended.0)

@@ -3,7 +3,7 @@ use Rattle.cweb_files.specs.Shelves.{ShelfModel}
 use Rattle.cweb_files.specs.Sinks.{SinkModel}
 use Rattle.cweb_log.specs.DeviceModels.{FailedReads, failed_reads}
 use Rattle.cweb_system.specs.Bins.{bins_model, new_shelf}
-use Rattle.cweb_system.specs.inner.ShelfState.{shelf_model}
+use Rattle.cweb_system.specs.inner.FolderCalls.{shelf_model}
 use Rattle.cweb_tools.proofs.Courses.{options_in}
 use Rattle.cweb_tools.proofs.Doing.{log_counted}
 use Rattle.cweb_tools.proofs.InFolder.{left_in_folder, tangles_in, unread_in, world_of_shelf}

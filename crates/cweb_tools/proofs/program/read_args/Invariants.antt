@@ -1,5 +1,4 @@
-use Rattle.std.specs.Prelude.{◌≡◌, All, Some, map, string_bytes, take}
-use Rattle.std.specs.Prelude.{IsUtf8}
+use Rattle.std.specs.Prelude.{◌≡◌, All, Some, map, string_bytes, take, IsUtf8}
 use Rattle.cweb_tools.specs.inner.Variables.{Variables}
 use Rattle.cweb_tools.proofs.program.read_args.Given as goal
 

@@ -1,4 +1,4 @@
-use Rattle.cweb_tools.proofs.Common.{◌≡◌, List, ℕ, refl, sym, ◌∙◌, ap, option_copied, IsSome, Some, World, Stop, contents_of, so_far, scanned_model, subject, OptionsModel, options_of, FailedReads, failed_reads, world_of}
+use Rattle.cweb_tools.proofs.Common.{◌≡◌, List, ℕ, refl, sym, ◌∙◌, ap, option_copied, World, Stop, contents_of, so_far, scanned_model, subject, OptionsModel, options_of, failed_reads, world_of}
 use Rattle.cweb_tools.proofs.Carried.{left_by, observed}
 use Rattle.cweb_tools.proofs.Broken.{shelf_after}
 use Rattle.cweb_tools.proofs.ReadingExits.{read_stops, read_whole}
@@ -11,12 +11,12 @@ returns-in-Err-clause-stops g c =
     let world : World = world_of (contents_of old).texts (option_copied c.args.inputs) in
     let args : OptionsModel = options_of c.args.options.now in
     let searched = c.in-Err.ensures in λ later out.
-    start_ends (failed_reads old) (failed_reads (g.S.Shelf.model c.start-started.new.shelf))
+    start_ends (failed_reads old) (failed_reads (g.S.Shelf.model c.start.new.shelf))
     (ap failed_reads searched.same) out (g.L.Sink.model c.args.log.now) (g.L.Sink.model c.log_stop.new.log)
     later args world _ c.log_stop.ensures.status _ _ c.in-Err.stop searched.only
     (λ some. rw (c.as_str.ensures.value, c.second.ensures, c.change.ensures)
     at (searched.stops (contents_of old) (observed old some)))
-    (rw c.start_subject.ensures at c.log_stop.ensures.logs)
+    (rw (c.start_subject.ensures, c.as_str-in-Err.ensures.value, c.change-in-Err.ensures) at c.log_stop.ensures.logs)
 
 pub returns-in-Err-scan-clause-stops : goal.returns-in-Err-scan-clause-stops
 returns-in-Err-scan-clause-stops g c =

@@ -57,13 +57,13 @@ pub returns-in-Err-say_end : goal.returns-in-Err-say_end
 returns-in-Err-say_end g c = λ shelf. ends_on ((rw c.no_text.ensures at c.in_default.ensures) shelf _) (ends_on
     does_reserve (ends_on (all_on {A = Unit {0}} c.args.shown.progress c.args.web.names.now c.in-Ok.expander
     (Ok tt) (ap (λ (s : Bor Stored). s.now) c.in-Ok.ensures.store ∙ c.store.ensures) (ap (λ (p : Bor Planned).
-    p.now) c.in-Ok.ensures.plan) c.in_default-write_outputs.ensures.does shelf) (log_halts_all (closing_on c.args.shown
-    c.of.ensures c.fault_count-count.ensures.count c.no_text-2.ensures c.in-Err-say_end.ensures shelf _) refl)))
+    p.now) c.in-Ok.ensures.plan) c.in_default-write_outputs.ensures.does shelf) (log_halts_all (closing_on c.args.shown _
+    c.fault_count-count.ensures.count c.no_text-2.ensures c.in-Err-say_end.ensures shelf _) refl)))
 
 pub returns : goal.returns
 returns g c = λ shelf. ends_on ((rw c.no_text.ensures at c.in_default.ensures) shelf _) (ends_on does_reserve
     (ends_on (all_on {A = Unit {0}} c.args.shown.progress c.args.web.names.now c.in-Ok.expander
     (Ok tt) (ap (λ (s : Bor Stored). s.now) c.in-Ok.ensures.store ∙ c.store.ensures) (ap (λ (p : Bor Planned).
-    p.now) c.in-Ok.ensures.plan) c.in_default-write_outputs.ensures.does shelf) (ends_done (closing_on c.args.shown
-    c.of.ensures c.fault_count-count.ensures.count c.no_text-2.ensures c.in_default-say_end.ensures shelf _)
+    p.now) c.in-Ok.ensures.plan) c.in_default-write_outputs.ensures.does shelf) (ends_done (closing_on c.args.shown _
+    c.fault_count-count.ensures.count c.no_text-2.ensures c.in_default-say_end.ensures shelf _)
     (c.status.ensures ∙ ap (λ (n : ℕ). if n == 0 then 0 else 1) c.fault_count-count.ensures.count))))

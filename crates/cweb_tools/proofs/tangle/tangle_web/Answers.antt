@@ -1,5 +1,5 @@
 use Rattle.cweb_tools.proofs.Common.{refl, arith, files_of}
-use Rattle.cweb_tools.specs.inner.Web.{web_in}
+use Rattle.cweb_tools.specs.inner.Tangle.{web_in}
 use Rattle.cweb_tools.proofs.Doing.{ends_on, log_counted}
 use Rattle.cweb_tools.proofs.DoingFiles.{does_plan, log_halts}
 use Rattle.cweb_tools.proofs.Refusals.{planning_made}

@@ -1,5 +1,5 @@
 use Rattle.cweb_tools.proofs.Common.{Some, option_copied, sym, ◌∙◌, ap, subst, World, FailedReads, SinkModel, Devices, at, devices, failed_reads, EndsMerge, WebNames, merge_course, contents_of, world_of}
-use Rattle.cweb_log.specs.inner.Words.{merge_word_names}
+use Rattle.cweb_log.specs.inner.LogText.{merge_word_names}
 use Rattle.cweb_tools.proofs.Carried.{observed}
 use Rattle.cweb_tools.proofs.MergeStarts.{start_stopped}
 use Rattle.cweb_tools.proofs.wmerge.merge_web.Goals as goal
@@ -20,13 +20,13 @@ returns-in-Err g c =
     (start_stopped world names first out log log' _ c.log_stop.ensures.status _ _ c.in-Err.stop searched.only
     (λ some. rw (c.as_str.ensures.value, c.second.ensures, c.change.ensures)
     at (searched.stops (contents_of old) (observed old some)))
-    (rw c.start_subject.ensures at c.log_stop.ensures.logs))
+    (rw (c.start_subject.ensures, c.as_str-in-Err.ensures.value, c.change-in-Err.ensures) at c.log_stop.ensures.logs))
 
 pub returns-in-Ok : goal.returns-in-Ok
 returns-in-Ok g c =
     let names : WebNames = merge_word_names c.args.args.now in
     let begun = c.in-Ok.ensures in
-    let now = g.S.Shelf.model c.start-started.new.shelf in
+    let now = g.S.Shelf.model c.start.new.shelf in
     let out : SinkModel = g.W.Sink.model c.args.out.now in
     let log : SinkModel = g.L.Sink.model c.args.log.now in
     let after : Devices = devices g.S.Shelf g.W.Sink g.L.Sink c.merge_begun.new.shelf c.merge_begun.new.out

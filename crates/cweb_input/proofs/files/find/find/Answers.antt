@@ -3,7 +3,7 @@ use Rattle.std.proofs.Common.{string_bytes}
 use Rattle.std.specs.Prelude.{option_and_then}
 use Rattle.cweb_input.specs.Include.{found_under}
 use Rattle.cweb_input.specs.inner.Finding.{found_as}
-use Rattle.cweb_input.specs.surface.Finding.{optional_string_bytes, world_in}
+use Rattle.cweb_input.specs.surface.OpenedFileNames.{optional_string_bytes, world_in}
 use Rattle.cweb_input.proofs.Found.{found_nothing, found_first, found_second, IfOk-map}
 use Rattle.cweb_input.proofs.files.find.find.Goals as goal
 

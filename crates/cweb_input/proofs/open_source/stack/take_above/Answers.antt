@@ -1,3 +1,4 @@
+use Rattle.cweb_input.proofs.Errors.{same_error}
 use Rattle.cweb_input.proofs.Common.{[], None, ap, ◌-◌, rules, Some, ◌∙◌, arith}
 use Rattle.std.proofs.Common.{get_or-set_other}
 use Rattle.std.specs.Prelude.{Ok, slice_index_or}
@@ -6,26 +7,26 @@ use Rattle.cweb_input.proofs.open_source.stack.take_above.Goals as goal
 
 pub returns-in-texts-clause-taken : goal.returns-in-texts-clause-taken
 returns-in-texts-clause-taken g c = λ seen is rest.
-    let top = rw c.in-Some.is at (c.in-Ok.ensures.taken seen (ap (λ m. m.contents) c.texts.invariant.unread ∙ is)) in
+    let top = rw c.in-Some.is at (c.in_ok-at.ensures.taken seen (ap (λ m. m.contents) c.texts.invariant.unread ∙ is)) in
     takes_same (Some c.in-Some.at) _ _ _ _ _ _ _ (c.texts.invariant.things seen is rest) c.texts.invariant.counted
     (top c.args.low (omega (arith, c.texts-test.true)) rest)
 
-pub returns-in-Err-clause-takes : goal.returns-in-Err-clause-takes
-returns-in-Err-clause-takes g c =
+pub returns-in_err-at-clause-takes : goal.returns-in_err-at-clause-takes
+returns-in_err-at-clause-takes g c =
     let loop = c.texts.invariant in
-    let takes = c.in-Err.ensures.takes in
-    record {
+    let takes = c.in_err-at.ensures.takes in
+    rw (same_error _ _ c.from_residual.ensures.1) (record {
       reads = rw loop.unread at takes.reads;
       named = λ seen is names each. rw loop.unread at (takes.named seen (ap (λ m. m.contents) loop.unread ∙ is) names
           (loop.named seen is names each));
       order = search rules;
       answers = search rules;
-    }
+    })
 
 pub returns-in-texts-clause-takes : goal.returns-in-texts-clause-takes
 returns-in-texts-clause-takes g c =
     let loop = c.texts.invariant in
-    let takes = c.in-Ok.ensures.takes in
+    let takes = c.in_ok-at.ensures.takes in
     record {
       reads = rw loop.unread at takes.reads;
       named = λ seen is names each. rw loop.unread at (takes.named seen (ap (λ m. m.contents) loop.unread ∙ is) names
@@ -37,8 +38,8 @@ returns-in-texts-clause-takes g c =
 pub texts-preserved : goal.texts-preserved
 texts-preserved g c =
     let loop = c.texts.invariant in
-    let takes = c.in-Ok.ensures.takes in
-    let depth = rw c.in_default.is at c.in-Ok.ensures.closes.depth in
+    let takes = c.in_ok-at.ensures.takes in
+    let depth = rw c.in_default.is at c.in_ok-at.ensures.closes.depth in
     let counted = rw c.in_default.is at takes.answers.counted in
     record {
       unread = takes.reads.1 ∙ loop.unread;
@@ -49,17 +50,17 @@ texts-preserved g c =
       numbers = takes.order.numbers;
       deep = takes.order.deep;
       files = omega (arith, takes.order.files, loop.files);
-      below = λ left n le rest. c.in-Ok.ensures.closes.below c.args.low c.texts-test.true left n le rest
+      below = λ left n le rest. c.in_ok-at.ensures.closes.below c.args.low c.texts-test.true left n le rest
           ∙ loop.below left n le rest;
-      kept = λ place below. (rw c.in_default.is at c.in-Ok.ensures.closes.numbers) place below
+      kept = λ place below. (rw c.in_default.is at c.in_ok-at.ensures.closes.numbers) place below
           ∙ loop.kept place (omega (arith, depth, below));
       same = λ place below. ap (λ texts. slice_index_or texts place None)
-          (c.in-Ok.ensures.closes.closed (ap Ok c.in_default.is))
+          (c.in_ok-at.ensures.closes.closed (ap Ok c.in_default.is))
           ∙ get_or-set_other c.texts.stack.texts (c.texts.stack.depth - 1) place None None (omega (arith, depth, below))
           ∙ loop.same place (omega (arith, depth, below));
       counted = (λ i. record { lines = counted.0 i; bytes = counted.1 i }) ∙ loop.counted;
       things = λ seen is rest.
-          let top = rw c.in_default.is at (c.in-Ok.ensures.taken seen (ap (λ m. m.contents) loop.unread ∙ is)) in
+          let top = rw c.in_default.is at (c.in_ok-at.ensures.taken seen (ap (λ m. m.contents) loop.unread ∙ is)) in
           loop.things seen is rest ∙ top c.args.low c.texts-test.true rest;
     }
 

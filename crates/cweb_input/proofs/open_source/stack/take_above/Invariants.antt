@@ -2,9 +2,8 @@ use Rattle.cweb_input.proofs.Common.{◌<◌, None, ◌≡◌, ◌≤◌, List, 
 use Rattle.std.specs.Prelude.{slice_index_or}
 use Rattle.cweb_files.specs.Shelves.{Observed}
 use Rattle.cweb_input.specs.Lines.{Thing}
-use Rattle.cweb_input.specs.surface.ReaderNames.{AreReadersNamed}
+use Rattle.cweb_input.specs.surface.OpenSources.{AreReadersNamed, things_above}
 use Rattle.cweb_input.specs.inner.OpenSources.{AreDeep, StaysBelow, files_up_to, line_number, maximum_of}
-use Rattle.cweb_input.specs.surface.OpenSources.{things_above}
 use Rattle.cweb_input.specs.inner.LineCalls.{KeepsNumbers}
 use Rattle.cweb_input.proofs.open_source.stack.take_above.Given as goal
 

@@ -1,5 +1,6 @@
 use Rattle.std.specs.Prelude.{Ok, Option}
 use Rattle.cweb_input.specs.declared.open_source.LineAt.{LineAt}
+use Rattle.cweb_input.proofs.Errors.{same_error}
 use Rattle.cweb_input.proofs.Common.{Err, common_steps, rules, ◌<◌, ◌-◌, length, refl, ◌∙◌, arith, None, counters_of}
 use Rattle.std.proofs.lemmas.List.{get_or_default, set-set}
 use Rattle.cweb_input.specs.inner.OpenSources.{line_number, files_up_to}
@@ -17,30 +18,30 @@ take_from-requires-clause-number g c =
       c.requires.numbers,
     )
 
-pub returns-in-Err : goal.returns-in-Err
-returns-in-Err g c =
+pub returns-in_err-at : goal.returns-in_err-at
+returns-in_err-at g c =
     let stack = c.args.stack.now in
     let within : stack.depth - 1 < length stack.texts = omega arith in
     let slot = c.index-stack-top.result in
     let file = most_read files_up_to stack.texts (stack.depth - 1) slot within in
-    let takes = c.in-Err.ensures.takes in
-    record {
+    let takes = c.in_err-at.ensures.takes in
+    rw (same_error _ _ c.from_residual.ensures.1) (record {
       takes = record {
         reads = takes.reads;
         named = names_set {A = Option LineAt} (g.S.Shelf.model c.args.shelf.now)
-            (g.S.Shelf.model c.take_from.new.shelf) (Err c.in-Err.stop) stack.texts _ slot within
+            (g.S.Shelf.model c.take_from.new.shelf) (Err c.in_err-at.field-0.0) stack.texts _ slot within
             _ takes.named;
         order = keeps_stack stack _ _ c.take_from.new.slot _ refl
             (omega (arith, c.requires.numbers, takes.answers.counted.0)) takes.text.number
-            (omega (arith, takes.text.file, file)) c.requires.deep (c.in-Err.ensures.deep (stack.depth - 1)
+            (omega (arith, takes.text.file, file)) c.requires.deep (c.in_err-at.ensures.deep (stack.depth - 1)
             (deep-at 0 (stack.depth - 1) (stack.depth - 1) stack.texts slot (omega arith) within c.requires.deep)).0;
         answers = grind (arith, common_steps, file, takes.answers);
       };
       taken = λ seen is. tt;
-      stops = λ seen is. stops_map c.in-Err.stop (λ first low above rest. top_stops seen.left
+      stops = λ seen is. stops_map c.in_err-at.field-0.0 (λ first low above rest. top_stops seen.left
           stack.texts slot c.take_from.new.slot stack.depth within
           (counters_of c.args.limits.now) (counters_of c.take_from.new.limits) c.take_from.new.line.items low above rest
-          c.in-Err.stop first) (takes.stops seen is);
+          c.in_err-at.field-0.0 first) (takes.stops seen is);
       needed = rw (get_or_default stack.texts (stack.depth - 1) None slot within) takes.needed;
       closes = record {
         depth = search rules;
@@ -50,7 +51,7 @@ returns-in-Err g c =
             takes.text.uncounted;
         deeper = tt;
       };
-    }
+    })
 
 pub returns-in_default : goal.returns-in_default
 returns-in_default g c =
@@ -58,14 +59,14 @@ returns-in_default g c =
     let within : stack.depth - 1 < length stack.texts = omega arith in
     let slot = c.index-stack-top.result in
     let closed = c.close.ensures.texts ∙ set-set stack.texts (stack.depth - 1) c.take_from.new.slot None in
-    let takes = c.in-Ok.ensures.takes in
+    let takes = c.in_ok-at.ensures.takes in
     let counted = rw c.in_default.is at takes.answers.counted in
     record {
       takes = record {
         reads = takes.reads;
         named = rw closed (names_set {A = Option LineAt} (g.S.Shelf.model c.args.shelf.now)
             (g.S.Shelf.model c.take_from.new.shelf)
-            (Ok c.in-Ok.taken) stack.texts _ slot within None
+            (Ok c.in_ok-at.field-0) stack.texts _ slot within None
             (λ seen is names each. (tt, (takes.named seen is names each).1)));
         order = keeps_stack stack _ _ None _ closed (omega (arith, c.requires.numbers, counted.0)) (omega arith)
             (omega arith) c.requires.deep refl;
@@ -91,16 +92,16 @@ returns g c =
     let within : stack.depth - 1 < length stack.texts = omega arith in
     let slot = c.index-stack-top.result in
     let file = most_read files_up_to stack.texts (stack.depth - 1) slot within in
-    let takes = c.in-Ok.ensures.takes in
+    let takes = c.in_ok-at.ensures.takes in
     let counted = rw c.in-Some.is at takes.answers.counted in
     let level = rw c.in-Some.is at takes.text.level in
-    let deep = c.in-Ok.ensures.deep (stack.depth - 1)
+    let deep = c.in_ok-at.ensures.deep (stack.depth - 1)
     (deep-at 0 (stack.depth - 1) (stack.depth - 1) stack.texts slot (omega arith) within c.requires.deep) in
     record {
       takes = record {
         reads = takes.reads;
         named = names_set {A = Option LineAt} (g.S.Shelf.model c.args.shelf.now)
-            (g.S.Shelf.model c.take_from.new.shelf) (Ok c.in-Ok.taken) stack.texts _ slot within
+            (g.S.Shelf.model c.take_from.new.shelf) (Ok c.in_ok-at.field-0) stack.texts _ slot within
             _ takes.named;
         order = keeps_stack stack _ _ c.take_from.new.slot _ refl (omega (arith, c.requires.numbers, counted))
             takes.text.number (omega (arith, takes.text.file, file)) c.requires.deep deep.0;

@@ -1,7 +1,8 @@
+use Rattle.cweb_input.proofs.Errors.{same_error}
 use Rattle.cweb_input.proofs.Common.{rules, ◌≡◌, ◌+◌, ◌∙◌, ap, Err, List, ℕ, [], bytes_left, counters_of}
 use Rattle.std.specs.Prelude.{Option}
 use Rattle.cweb_files.specs.declared.place.FileId.{FileId}
-use Rattle.cweb_input.specs.surface.ReaderNames.{name_of_file, shelf_after}
+use Rattle.cweb_input.specs.surface.OpenSources.{name_of_file, shelf_after}
 use Rattle.cweb_input.proofs.ReadersStayNamed.{blames_known, blames_some, line_blames}
 use Rattle.cweb_input.proofs.TrimmedLines.{takes_first, line_stops, line_reads, line_needs, first_passes}
 use Rattle.cweb_input.proofs.open_source.take.take_line.Goals as goal
@@ -32,26 +33,26 @@ returns-in-Err-clause-takes g c =
       answers = search (rules, line_reads c.in-Err.fault _ c.args.text.now.file c.stop_of.ensures);
     }
 
-pub returns-in-Err-add-clause-takes : goal.returns-in-Err-add-clause-takes
-returns-in-Err-add-clause-takes g c =
+pub returns-in_err-add-clause-takes : goal.returns-in_err-add-clause-takes
+returns-in_err-add-clause-takes g c =
     let reads = c.in-Ok.ensures.reads in
     let same : (name : FileId → List ℕ) → g.S.Shelf.model c.take_trimmed.new.shelf
-    ≡ shelf_after name c.in-Err-add.stop (g.S.Shelf.model c.args.shelf.now) = λ name.
-    rw c.in-Err-add.ensures.stop reads.shelf in
-    record {
+    ≡ shelf_after name c.in_err-add.field-0.0 (g.S.Shelf.model c.args.shelf.now) = λ name.
+    rw c.in_err-add.ensures.stop reads.shelf in
+    rw (same_error _ _ c.from_residual.ensures.1) (record {
       reads = (λ file. [], same _);
       taken = λ seen is. tt;
       stops = λ seen is.
           let line = rw c.in-Some.is at (c.in-Ok.ensures.taken seen is) in
-          first_passes c.in-Err-add.stop line.taken (bytes_left seen.left c.args.text.now.source)
+          first_passes c.in_err-add.field-0.0 line.taken (bytes_left seen.left c.args.text.now.source)
           (bytes_left seen.left c.take_trimmed.new.source) line.raw c.args.text.now.file.0
           (c.args.text.now.line + 1) (counters_of c.args.limits.now) line.some line.takes line.short
-          c.in-Err-add.ensures.stop (rw line.size_is at c.in-Err-add.ensures.passed);
-      needed = rw c.in-Err-add.ensures.stop tt;
+          c.in_err-add.ensures.stop (rw line.size_is at c.in_err-add.ensures.passed);
+      needed = rw c.in_err-add.ensures.stop tt;
       named = λ seen is names named. (reads.opened seen is ∙ named, same _);
       text = search rules;
       answers = search rules;
-    }
+    })
 
 pub returns-in_default-clause-takes : goal.returns-in_default-clause-takes
 returns-in_default-clause-takes g c = record {
@@ -73,7 +74,7 @@ returns-clause-takes g c = record {
       (bytes_left seen.left c.take_trimmed.new.source) c.args.text.now.file.0
       (c.args.text.now.line + 1) c.args.text.now.depth c.args.text.now.may_match line.taken
       (counters_of c.args.limits.now) (counters_of c.add.new.self) line.some line.takes line.bytes_are line.short
-      c.in_default-add.ensures.lines (rw line.size_is at c.in_default-add.ensures.bytes);
+      c.in_ok-add.ensures.lines (rw line.size_is at c.in_ok-add.ensures.bytes);
   stops = λ seen is. tt;
   needed = tt;
   named = λ seen is names named. (c.in-Ok.ensures.reads.opened seen is ∙ named, c.in-Ok.ensures.reads.shelf);

@@ -1,6 +1,7 @@
+use Rattle.cweb_input.proofs.Errors.{same_error}
 use Rattle.cweb_lines.proofs.Common.{[], append-nil, refl}
 use Rattle.cweb_lines.proofs.change.seek.look_after_x.Goals as goal
 
-pub returns-in-Err-clause-err : goal.returns-in-Err-clause-err
-returns-in-Err-clause-err g c = λ source is lines.
-    record { prefix = []; rest = _; whole = refl; reported = simp (c.in-Err.ensures.err, append-nil) }
+pub returns-in_err-report-clause-err : goal.returns-in_err-report-clause-err
+returns-in_err-report-clause-err g c = rw (same_error _ _ c.from_residual.ensures.1) (λ source is lines.
+    record { prefix = []; rest = _; whole = refl; reported = simp (c.in_err-report.ensures.err, append-nil) })

@@ -5,7 +5,7 @@ use Rattle.cweb_lines.proofs.merger.Merger.first_ahead.Goals as goal
 pub returns-clause-looks : goal.returns-clause-looks
 returns-clause-looks g c =
     let run = c.args.self.now.run in
-    let next = c.in-Some-stretch.ensures.lines in
-    looks_at run [] _ next.1.settled next.1.above c.in-Some-stretch.ensures.fits
-    (looks_first (pending_of run) (top_of run.stack) c.in-Some-stretch.stretch
-    c.in-Some-line_at.line next.0 next.1.in_place next.2 c.in-Some-line_at.ensures)
+    let next = c.in_ok-stretch.ensures.lines in
+    looks_at run [] _ next.1.settled next.1.above c.in_ok-stretch.ensures.fits
+    (looks_first (pending_of run) (top_of run.stack) c.in_ok-stretch.stretch
+    c.in_ok-line.line next.0 next.1.in_place next.2 c.in_ok-line.ensures)

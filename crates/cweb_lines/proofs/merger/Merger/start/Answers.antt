@@ -1,5 +1,5 @@
 use Rattle.cweb_lines.proofs.Common.{rules, ◌≡◌, ◌+◌, ◌∷◌, ◌++◌, ℕ, List, Some, length, length-append, string_bytes, ap, sym, ◌∙◌, arith, get_or, [], found_as, names_found, opened_file_names, IsReaderNamed}
-use Rattle.cweb_lines.specs.inner.Faults.{files_of_faults}
+use Rattle.cweb_lines.specs.inner.Stages.{files_of_faults}
 use Rattle.cweb_lines.proofs.MergeStateEvents.{begins_low}
 use Rattle.cweb_lines.proofs.merger.Merger.start.Goals as goal
 
@@ -7,23 +7,23 @@ pub invariant_of-result : goal.invariant_of-result
 unfolding files_of_faults
 invariant_of-result g c =
     let one : length (opened_file_names c.open_web.new.names) ≡ 1 = ap
-    (λ (ns : List (List ℕ)). length ns) c.in-Ok.ensures.names in
+    (λ (ns : List (List ℕ)). length ns) c.in_ok-web-2.ensures.names in
     let left : g.row.S-R.Denot → List ℕ = λ reader. [] in
     let found = names_found (found_as left c.in-Some-2.change) in
     let all : length (opened_file_names c.open_change.new.names) ≡ 1 + length found =
-    ap (λ (ns : List (List ℕ)). length ns) (c.in-Ok-open_change.ensures.names left)
+    ap (λ (ns : List (List ℕ)). length ns) (c.in_ok-change-2.ensures.names left)
     ∙ length-append (opened_file_names c.open_web.new.names) found ∙ ap (λ n. n + length found) one in
-    let low = begins_low c.in-Ok-open_change.change c.first_stage.result c.first_stage.ensures in
+    let low = begins_low c.in_ok-change-2.change c.first_stage.result c.first_stage.ensures in
     record {
       shallow = omega (arith, c.new.ensures.depth);
-      deep = c.new.ensures.deep (omega (arith, c.in-Ok.ensures.level.2));
-      numbers = omega (arith, c.new.ensures.numbers, c.in-Ok.ensures.level.1);
-      change_number = omega (arith, c.in-Ok-open_change.ensures.number);
+      deep = c.new.ensures.deep (omega (arith, c.in_ok-web-2.ensures.level.2));
+      numbers = omega (arith, c.new.ensures.numbers, c.in_ok-web-2.ensures.level.1);
+      change_number = omega (arith, c.in_ok-change-2.ensures.number);
       floor = omega (arith, low.0);
       floor_deep = omega (arith, low.0);
-      named = omega (arith, c.in-Ok-open_change.ensures.few);
-      open_known = omega (arith, c.new.ensures.files, c.in-Ok.ensures.level.0, all);
-      change_known = c.in-Ok-open_change.ensures.file;
+      named = omega (arith, c.in_ok-change-2.ensures.few);
+      open_known = omega (arith, c.new.ensures.files, c.in_ok-web-2.ensures.level.0, all);
+      change_known = c.in_ok-change-2.ensures.file;
       begun_known = omega (arith, low.1);
       faults_known = rw c.new-4.ensures.items (omega arith);
       stop_known = omega arith;
@@ -33,8 +33,8 @@ pub returns-clause-begins : goal.returns-clause-begins
 returns-clause-begins g c = λ seen it.
     let change = found_as seen.left c.in-Some-2.change in
     let names : opened_file_names c.open_change.new.names ≡ string_bytes c.in-Some.web.name ∷ names_found change =
-    c.in-Ok-open_change.ensures.names seen.left ∙ ap (λ (ns : List (List ℕ)). ns ++ names_found change)
-    c.in-Ok.ensures.names in
+    c.in_ok-change-2.ensures.names seen.left ∙ ap (λ (ns : List (List ℕ)). ns ++ names_found change)
+    c.in_ok-web-2.ensures.names in
     let web = c.in_ok-web.ensures.found seen it in
     let changed = c.in_ok-change.ensures.found seen (ap (λ m. m.contents) c.in_ok-web.ensures.same ∙ it) in
     record {
@@ -51,12 +51,13 @@ pub returns-clause-readers : goal.returns-clause-readers
 returns-clause-readers g c = λ seen it.
     let found = names_found (found_as seen.left c.in-Some-2.change) in
     let names : opened_file_names c.open_change.new.names ≡ string_bytes c.in-Some.web.name ∷ found =
-    c.in-Ok-open_change.ensures.names seen.left ∙ ap (λ (ns : List (List ℕ)). ns ++ found) c.in-Ok.ensures.names in
-    let reader = ap seen.opened_as c.in-Ok.ensures.reader ∙ rw c.in-Some.is at (c.in_ok-web.ensures.opened seen it) in
-    let top : IsReaderNamed seen.opened_as (opened_file_names c.open_change.new.names) (Some c.in-Ok.web) =
-    reader ∙ sym ((λ i. get_or (names i) (c.in-Ok.ensures.level.0 i) [])) in
+    c.in_ok-change-2.ensures.names seen.left ∙ ap (λ (ns : List (List ℕ)). ns ++ found) c.in_ok-web-2.ensures.names in
+    let reader = ap seen.opened_as c.in_ok-web-2.ensures.reader ∙ rw c.in-Some.is at (c.in_ok-web.ensures.opened seen
+    it) in
+    let top : IsReaderNamed seen.opened_as (opened_file_names c.open_change.new.names) (Some c.in_ok-web-2.web) =
+    reader ∙ sym ((λ i. get_or (names i) (c.in_ok-web-2.ensures.level.0 i) [])) in
     record {
       texts = search rules;
-      change = c.in-Ok-open_change.ensures.named seen.opened_as (rw c.in-Some-2.is at
+      change = c.in_ok-change-2.ensures.named seen.opened_as (rw c.in-Some-2.is at
           (c.in_ok-change.ensures.opened seen (ap (λ m. m.contents) c.in_ok-web.ensures.same ∙ it)));
     }

@@ -6,7 +6,7 @@ use Rattle.cweb_lines.proofs.step.obey.open.Goals as goal
 pub invariant_of-run-2 : goal.invariant_of-run-2
 invariant_of-run-2 g c =
     let count : length (opened_file_names c.push.new.self) ≡ length (opened_file_names c.args.run.now.names) + 1 =
-    ap (λ (ns : List (List ℕ)). length ns) c.in_default.ensures.ok
+    ap (λ (ns : List (List ℕ)). length ns) c.in_ok-push.ensures.ok
     ∙ length-append (opened_file_names c.args.run.now.names) (string_bytes c.args.opening.name ∷ []) in
     record {
       shallow = omega (arith, c.push-2.ensures.depth, c.requires.room, c.requires.deep);
@@ -30,7 +30,7 @@ pub returns-clause-readers : goal.returns-clause-readers
 returns-clause-readers g c = λ opened_as opened known.
     let run = c.args.run.now in
     let more = string_bytes c.args.opening.name ∷ [] in
-    let names : opened_file_names c.push.new.self ≡ opened_file_names run.names ++ more = c.in_default.ensures.ok in
+    let names : opened_file_names c.push.new.self ≡ opened_file_names run.names ++ more = c.in_ok-push.ensures.ok in
     let file : get_or (opened_file_names run.names ++ more) c.count.result [] ≡ string_bytes c.args.opening.name =
     get_or_push
     (opened_file_names run.names) (string_bytes c.args.opening.name) [] c.count.result (sym c.count.ensures) in

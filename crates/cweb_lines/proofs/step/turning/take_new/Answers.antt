@@ -1,3 +1,4 @@
+use Rattle.cweb_input.proofs.Errors.{same_error}
 use Rattle.cweb_lines.proofs.Common.{rules, Some, ap, sym, subst, ◌∙◌, change_code, counters_of, Stopped, change_lines, so_far_of}
 use Rattle.cweb_lines.proofs.ReportsOnlyGrow.{took_faults, took_names}
 use Rattle.cweb_input.proofs.Found.{IfOk-map}
@@ -8,35 +9,35 @@ use Rattle.cweb_lines.proofs.Codes.{is_end}
 use Rattle.cweb_lines.proofs.Stops.{reported_stays, stops_unreported, unreported}
 use Rattle.cweb_lines.proofs.step.turning.take_new.Goals as goal
 
-pub returns-in-Err : goal.returns-in-Err
-returns-in-Err g c =
-    let took = c.in-Err.ensures.takes in
-    record {
+pub returns-in_err-at : goal.returns-in_err-at
+returns-in_err-at g c =
+    let took = c.in_err-at.ensures.takes in
+    rw (same_error _ _ c.from_residual.ensures.1) (record {
       reads = took.reads;
       turns = search rules;
       yields = λ seen it. tt;
       stops = λ seen it. record {
-        why = subst (λ es. Stopped c.in-Err.stop (so_far_of c.args.run.now) (so_far_of c.take_change.new.run) es)
-            (sym (coming_is seen.texts seen.left c.args.run.now
+        why = subst (λ es. Stopped c.in_err-at.field-0.0 (so_far_of c.args.run.now) (so_far_of c.take_change.new.run)
+            es) (sym (coming_is seen.texts seen.left c.args.run.now
             c.args.change c.requires.changing c.requires.below))
-            (new_stops _ c.args.change _ _ c.in-Err.stop (change_lines seen.left
+            (new_stops _ c.args.change _ _ c.in_err-at.field-0.0 (change_lines seen.left
             c.args.run.now) _ _ (reported_stays c.args.run.now _ took.only took.answers.counted)
-            (c.in-Err.ensures.stops seen it));
+            (c.in_err-at.ensures.stops seen it));
         reported = unreported _ _ _ (took_faults took.only) (took_names took.only);
       };
-    }
+    })
 
 pub returns-in_default : goal.returns-in_default
 returns-in_default g c =
-    let took = c.in-Ok.ensures.takes in
-    let report = c.in_default-report.ensures in
+    let took = c.in_ok-at.ensures.takes in
+    let report = c.in_ok-report.ensures in
     record {
       reads = search rules;
       turns = search rules;
       yields = λ seen it.
-          let taken = rw c.in_default.is at (c.in-Ok.ensures.taken seen it) in
+          let taken = rw c.in_default.is at (c.in_ok-at.ensures.taken seen it) in
           let counted = rw c.in_default.is at took.answers.counted in
-          new_ended seen.texts seen.left c.requires.changing c.requires.below took.only c.in-Ok.ensures.stack
+          new_ended seen.texts seen.left c.requires.changing c.requires.below took.only c.in_ok-at.ensures.stack
           c.report.new.self report.only taken.0
           (ap counters_of report.only.limits ∙ (λ i. record { lines = counted.0 i; bytes = counted.1 i }))
           report.reported;
@@ -45,17 +46,17 @@ returns-in_default g c =
 
 pub returns-in-None : goal.returns-in-None
 returns-in-None g c =
-    let took = c.in-Ok.ensures.takes in
+    let took = c.in_ok-at.ensures.takes in
     let obeys = c.emit_or_obey.ensures.obeys in
     record {
       reads = search rules;
       turns = search rules;
       yields = λ seen it.
-          let taken = rw c.in-Some.is at (c.in-Ok.ensures.taken seen it) in
+          let taken = rw c.in-Some.is at (c.in_ok-at.ensures.taken seen it) in
           let test = ap change_code (sym c.deref.ensures.value) ∙ sym c.change_code.ensures ∙ c.in-None.is in
           IfOk-map c.emit_or_obey.result (λ turn yields. yields_took _ (so_far_of c.args.run.now) _ _
           c.take_change.new.line.items c.in-Some.at.place taken.0 _ _ _ (took_faults took.only) (took_names took.only)
-          (new_first seen.texts seen.left c.requires.changing c.requires.below took.only c.in-Ok.ensures.stack
+          (new_first seen.texts seen.left c.requires.changing c.requires.below took.only c.in_ok-at.ensures.stack
           c.take_change.new.line.items c.in-Some.at.place taken.0 taken.1 test)
           (yields taken.0.line taken.0.is))
           (rw c.deref-in-None.ensures.value at (obeys.yields seen (still_seen took.reads it)));
@@ -65,32 +66,32 @@ returns-in-None g c =
 
 pub returns-then-eq : goal.returns-then-eq
 returns-then-eq g c =
-    let took = c.in-Ok.ensures.takes in
+    let took = c.in_ok-at.ensures.takes in
     record {
       reads = search rules;
       turns = search rules;
       yields = λ seen it.
-          let taken = rw c.in-Some.is at (c.in-Ok.ensures.taken seen it) in
+          let taken = rw c.in-Some.is at (c.in_ok-at.ensures.taken seen it) in
           let test = ap change_code (sym c.deref.ensures.value) ∙ sym c.change_code.ensures ∙ c.in-Some-change_code.is
           ∙ ap Some (is_end c.in-Some-change_code.code (sym c.eq.ensures ∙ c.if-eq.true)) in
-          new_side_ended seen.texts seen.left c.requires.changing c.requires.below took.only c.in-Ok.ensures.stack
+          new_side_ended seen.texts seen.left c.requires.changing c.requires.below took.only c.in_ok-at.ensures.stack
           c.take_change.new.line.items
           c.in-Some.at.place taken.0 _ taken.1 test;
       stops = λ seen it. tt;
     }
 
-pub returns-in_default-report-2 : goal.returns-in_default-report-2
-returns-in_default-report-2 g c =
-    let took = c.in-Ok.ensures.takes in
-    let report = c.in_default-report-2.ensures in
+pub returns-in_ok-report-in-Some-change_code : goal.returns-in_ok-report-in-Some-change_code
+returns-in_ok-report-in-Some-change_code g c =
+    let took = c.in_ok-at.ensures.takes in
+    let report = c.in_ok-report-in-Some-change_code.ensures in
     record {
       reads = search rules;
       turns = search rules;
       yields = λ seen it.
-          let taken = rw c.in-Some.is at (c.in-Ok.ensures.taken seen it) in
+          let taken = rw c.in-Some.is at (c.in_ok-at.ensures.taken seen it) in
           let test = ap change_code (sym c.deref.ensures.value) ∙ sym c.change_code.ensures
           ∙ c.in-Some-change_code.is in
-          new_faulty seen.texts seen.left c.requires.changing c.requires.below took.only c.in-Ok.ensures.stack
+          new_faulty seen.texts seen.left c.requires.changing c.requires.below took.only c.in_ok-at.ensures.stack
           c.take_change.new.line.items c.in-Some.at.place taken.0
           c.report-in-Some-change_code.new.self report.only taken.1 c.in-Some-change_code.code test
           (sym c.eq.ensures ∙ c.if-eq.false) report.reported;

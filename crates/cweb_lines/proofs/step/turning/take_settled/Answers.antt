@@ -1,3 +1,4 @@
+use Rattle.cweb_input.proofs.Errors.{same_error}
 use Rattle.cweb_lines.proofs.Common.{rules, Some, ◌≡◌, sym, ◌∙◌, counters_of, change_lines, pending_of, things_of, so_far_of, CountsLine, events_to_come, events_after_line, begun_by, pending_in}
 use Rattle.cweb_lines.proofs.ReportsOnlyGrow.{took_faults, took_names}
 use Rattle.cweb_input.proofs.Found.{IfOk-map}
@@ -12,24 +13,24 @@ use Rattle.cweb_lines.proofs.step.turning.take_settled.Given as given
 use Rattle.cweb_lines.proofs.step.turning.take_settled.Goals as goal
 use Rattle.cweb_lines.proofs.step.turning.take_settled.Goals.{In-Some, In-Some-begun_at}
 
-pub returns-in-Err : goal.returns-in-Err
-returns-in-Err g c =
-    let took = c.in-Err.ensures.takes in
-    record {
+pub returns-in_err-at : goal.returns-in_err-at
+returns-in_err-at g c =
+    let took = c.in_err-at.ensures.takes in
+    rw (same_error _ _ c.from_residual.ensures.1) (record {
       reads = took.reads;
       turns = search rules;
       yields = λ seen it. tt;
       stops = λ seen it. record {
-        why = stopped_by c.in-Err.stop (so_far_of c.args.run.now) (so_far_of c.take_raw.new.run) _
+        why = stopped_by c.in_err-at.field-0.0 (so_far_of c.args.run.now) (so_far_of c.take_raw.new.run) _
             (things_of seen.left c.args.run.now) (pending_of c.args.run.now) _ _
             (reported_stays c.args.run.now _ took.only took.answers.counted)
             (things_first seen.left c.args.run.now.stage _ c.args.run.now.stack)
-            (stops_map c.in-Err.stop (stops_in seen.left c.args.run.now.stage
-            (change_lines seen.left c.args.run.now) c.args.run.now.stack c.in-Err.stop
-            (counters_of c.args.run.now.limits) c.requires.settled) (c.in-Err.ensures.stops seen it));
+            (stops_map c.in_err-at.field-0.0 (stops_in seen.left c.args.run.now.stage
+            (change_lines seen.left c.args.run.now) c.args.run.now.stack c.in_err-at.field-0.0
+            (counters_of c.args.run.now.limits) c.requires.settled) (c.in_err-at.ensures.stops seen it));
         reported = unreported _ _ _ (took_faults took.only) (took_names took.only);
       };
-    }
+    })
 
 taken : (g : given.Over) (c : In-Some g) (seen : ShelfContents g.row.S-R.Denot)
     → (g.S.Shelf.model c.args.shelf.now).contents ≡ Some seen → (t : CountsLine
@@ -38,10 +39,10 @@ taken : (g : given.Over) (c : In-Some g) (seen : ShelfContents g.row.S-R.Denot)
     × (events_to_come seen.texts seen.left c.args.run.now
     ≡ events_after_line seen.texts seen.left c.take_raw.new.run c.in-Some.at t.line)
 taken g c seen it =
-    let took = c.in-Ok.ensures.takes in
+    let took = c.in_ok-at.ensures.takes in
     raw_taken seen.texts seen.left c.args.run.now c.take_raw.new.run c.in-Some.at c.take_raw.new.line.items
-    c.requires.settled (rw c.in-Some.is at (c.in-Ok.ensures.taken seen it)) c.in-Ok.ensures.closes.below took.only
-    c.in-Ok.ensures.change
+    c.requires.settled (rw c.in-Some.is at (c.in_ok-at.ensures.taken seen it)) c.in_ok-at.ensures.closes.below took.only
+    c.in_ok-at.ensures.change
 
 begun : (g : given.Over) (c : In-Some-begun_at g) → begun_by (pending_of c.take_raw.new.run) c.in-Some.at.may_match
     c.take_raw.new.line.items ≡ Some c.in-Some-begun_at.begin
@@ -50,7 +51,7 @@ begun g c = (λ i. begun_by (pending_in c.take_raw.new.run.stage (sym c.deref.en
 
 pub returns-in_default-begun_at : goal.returns-in_default-begun_at
 returns-in_default-begun_at g c =
-    let took = c.in-Ok.ensures.takes in
+    let took = c.in_ok-at.ensures.takes in
     let obeys = c.emit_or_obey.ensures.obeys in
     record {
       reads = reads_then took.reads (reads_obeyed obeys);
@@ -66,12 +67,12 @@ returns-in_default-begun_at g c =
           (took_faults took.only) (took_names took.only) obeys.only.memory obeys.only.same;
     }
 
-pub returns-in-Err-begin_change : goal.returns-in-Err-begin_change
-returns-in-Err-begin_change g c =
-    let at = goal.at.returns-in-Err-begin_change g c in
-    let took = c.in-Ok.ensures.takes in
-    record {
-      reads = reads_then took.reads c.in-Err-begin_change.ensures.reads;
+pub returns-in_err-begin_change : goal.returns-in_err-begin_change
+returns-in_err-begin_change g c =
+    let at = goal.at.returns-in_err-begin_change g c in
+    let took = c.in_ok-at.ensures.takes in
+    rw (same_error _ _ c.from_residual-in_err-begin_change.ensures.1) (record {
+      reads = reads_then took.reads c.in_err-begin_change.ensures.reads;
       turns = search rules;
       yields = λ seen it. tt;
       stops = λ seen it.
@@ -79,20 +80,20 @@ returns-in-Err-begin_change g c =
           record {
             why = began_stops seen.texts seen.left
                 c.take_raw.new.run c.args.run.now c.in-Some.at c.take_raw.new.line.items c.in-Some-begun_at.begin _
-                took.only t.0 t.1 (begun g at.In-Some-begun_at) c.in-Err-begin_change.stop _
-                (c.in-Err-begin_change.ensures.stops seen (still_seen took.reads it));
+                took.only t.0 t.1 (begun g at.In-Some-begun_at) c.in_err-begin_change.field-0.0 _
+                (c.in_err-begin_change.ensures.stops seen (still_seen took.reads it));
             reported = began_tells seen.texts seen.left
                 c.take_raw.new.run c.args.run.now c.in-Some.at c.take_raw.new.line.items c.in-Some-begun_at.begin _
-                took.only t.0 t.1 (begun g at.In-Some-begun_at) _ (c.in-Err-begin_change.ensures.reported seen
+                took.only t.0 t.1 (begun g at.In-Some-begun_at) _ (c.in_err-begin_change.ensures.reported seen
                 (still_seen took.reads it));
           };
-    }
+    })
 
 pub returns : goal.returns
 returns g c =
     let at = goal.at.returns g c in
-    let took = c.in-Ok.ensures.takes in
-    let change = c.in_default-begin_change.ensures in
+    let took = c.in_ok-at.ensures.takes in
+    let change = c.in_ok-begin_change.ensures in
     record {
       reads = reads_then took.reads change.reads;
       turns = search rules;
@@ -107,18 +108,18 @@ returns g c =
 
 pub returns-in_default : goal.returns-in_default
 returns-in_default g c =
-    let took = c.in-Ok.ensures.takes in
+    let took = c.in_ok-at.ensures.takes in
     let last = c.take_end.ensures in
     record {
       reads = reads_then took.reads last.reads;
       turns = search rules;
       yields = λ seen it.
-          let taken = rw c.in_default.is at (c.in-Ok.ensures.taken seen it) in
+          let taken = rw c.in_default.is at (c.in_ok-at.ensures.taken seen it) in
           let counted = rw c.in_default.is at took.answers.counted in
           let yields = last.yields seen (still_seen took.reads it) in
           search rules;
       stops = λ seen it.
-          let taken = rw c.in_default.is at (c.in-Ok.ensures.taken seen it) in
+          let taken = rw c.in_default.is at (c.in_ok-at.ensures.taken seen it) in
           let counted = rw c.in_default.is at took.answers.counted in
           let stops = last.stops seen (still_seen took.reads it) in
           search rules;

@@ -1,26 +1,27 @@
+use Rattle.cweb_input.proofs.Errors.{same_error}
 use Rattle.cweb_lines.proofs.Common.{rules}
 use Rattle.cweb_lines.proofs.NoReadFails.{quiet_same}
 use Rattle.cweb_lines.proofs.Turns.{sought_yields, sought_stops, sought_tells}
 use Rattle.cweb_lines.proofs.step.turning.take_turn.Goals as goal
 
-pub returns-in-Err-clause-turn : goal.returns-in-Err-clause-turn
-returns-in-Err-clause-turn g c = record {
-  reads = c.in-Err.ensures.reads;
+pub returns-in_err-seek-clause-turn : goal.returns-in_err-seek-clause-turn
+returns-in_err-seek-clause-turn g c = rw (same_error _ _ c.from_residual.ensures.1) (record {
+  reads = c.in_err-seek.ensures.reads;
   turns = search rules;
   yields = λ seen it. tt;
   stops = λ seen it.
-      let stops = c.in-Err.ensures.stops seen it in
+      let stops = c.in_err-seek.ensures.stops seen it in
       record {
         why = sought_stops seen.texts seen.left c.args.run.now
-            c.in-Seeking.is c.in-Err.stop _ stops.why;
+            c.in-Seeking.is c.in_err-seek.field-0.0 _ stops.why;
         reported = sought_tells seen.texts seen.left c.args.run.now
             c.in-Seeking.is _ stops.reported;
       };
-}
+})
 
 pub returns-in-Seeking-clause-turn : goal.returns-in-Seeking-clause-turn
 returns-in-Seeking-clause-turn g c =
-    let seek = c.in_default-seek.ensures in
+    let seek = c.in_ok-seek.ensures in
     record {
       reads = seek.reads;
       turns = search rules;

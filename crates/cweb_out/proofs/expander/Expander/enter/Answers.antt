@@ -10,9 +10,9 @@ all c =
     let h : c.parts-rest.result ≡ c.in-Some-next.part ∷ c.next.new.self = c.in-Some-next.ensures.steps in
     let e : resolved_use w c.args.name ≡ Some c.in-Some.id = sym c.standing.ensures.name ∙ c.in-Some.is in
     let text : tokens_of_parts w (c.in-Some-next.part ∷ c.next.new.self) ≡ joined w c.in-Some.id =
-    ap (tokens_of_parts w) (sym h) ∙ c.parts-rest.ensures.text in
+    ap (tokens_of_parts w) (sym h) ∙ c.parts-rest.ensures.ranges.text in
     let within : All (PartIsWithin (length (all_tokens w.parts))) (c.in-Some-next.part ∷ c.next.new.self) =
-    subst (All (PartIsWithin (length (all_tokens w.parts)))) h c.parts-rest.ensures.within in
+    subst (All (PartIsWithin (length (all_tokens w.parts)))) h c.parts-rest.ensures.ranges.within in
     entered c.in-Some.id c.in-Some-next.part c.next.new.self c.requires.valid c.push_reserved.ensures.capacity
     c.requires.lower e text within c.push_reserved.ensures.items
 

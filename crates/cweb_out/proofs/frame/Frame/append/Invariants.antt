@@ -1,5 +1,5 @@
 use Rattle.cweb_out.proofs.Common.{◌≡◌, length, false}
-use Rattle.cweb_out.specs.inner.Frames.{PrintsFrame}
+use Rattle.cweb_out.specs.inner.FrameStacks.{PrintsFrame}
 use Rattle.cweb_out.proofs.frame.Frame.append.Given as goal
 
 abbrev pub invariant-parts : goal.invariant-parts

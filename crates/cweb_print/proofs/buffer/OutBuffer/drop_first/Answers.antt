@@ -1,5 +1,5 @@
 use Rattle.cweb_print.proofs.Common.{◌≤◌, ◌-◌, ◌++◌, ◌∙◌, ap, drop, take, length, arith, List, ℕ, length-take-le}
-use Rattle.cweb_print.specs.inner.Buffered.{Buffered}
+use Rattle.cweb_print.specs.inner.BufferedPrinting.{Buffered}
 use Rattle.cweb_print.proofs.OverlappingEnds.{rest_in_prefix, whole_again}
 use Rattle.cweb_print.proofs.buffer.OutBuffer.drop_first.Goals as goal
 

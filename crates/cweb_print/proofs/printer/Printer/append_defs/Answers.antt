@@ -2,7 +2,7 @@ use Rattle.cweb_print.proofs.Common.{arith, append-nil, ◌≡◌, ◌≤◌, �
 use Rattle.cweb_files.proofs.Appending.{wrote_until}
 use Rattle.cweb_print.proofs.AppendedParts.{WrittenBefore, before_none, before_then, before_until}
 use Rattle.cweb_print.proofs.MacroLines.{All-tail, lines, lines_are}
-use Rattle.cweb_print.specs.inner.Printables.{all_macro_lines, printable_bytes}
+use Rattle.cweb_print.specs.inner.BufferedPrinting.{all_macro_lines, printable_bytes}
 use Rattle.cweb_print.specs.declared.printer.buffered.Printable.{Printable}
 use Rattle.cweb_print.proofs.printer.Printer.append_defs.Goals as goal
 
@@ -13,10 +13,10 @@ macros-init g c =
     let old : SinkModel = written c.args.buffer.now.bytes (g.W.Sink.model c.args.out.now) in
     let mid : SinkModel = written c.append_printable.new.buffer.bytes (g.W.Sink.model c.append_printable.new.out) in
     record {
-      ordered = c.macros-parts.ensures.ordered;
-      within = c.macros-parts.ensures.within;
+      ordered = c.macros-parts.ensures.ranges.ordered;
+      within = c.macros-parts.ensures.ranges.within;
       wrote = subst (λ (t : List ℕ). WrittenBefore old mid (begin ++ all_macro_lines p) t)
-          (sym (ap (lines p.store.now) c.macros-parts.ensures.numbers ∙ lines_are p.store.now))
+          (sym (ap (lines p.store.now) c.macros-parts.ensures.ranges.numbers ∙ lines_are p.store.now))
           (before_then begin (all_macro_lines p) (before_none old (begin ++ all_macro_lines p))
           c.in_ok-append_printable.ensures);
     }

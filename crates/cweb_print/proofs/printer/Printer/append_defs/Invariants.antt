@@ -1,7 +1,7 @@
 use Rattle.cweb_print.proofs.Common.{◌≤◌, ◌++◌, length, All, all_tokens, written}
 use Rattle.cweb_print.proofs.AppendedParts.{WrittenBefore}
 use Rattle.cweb_print.proofs.MacroLines.{lines}
-use Rattle.cweb_print.specs.inner.Printables.{all_macro_lines, printable_bytes}
+use Rattle.cweb_print.specs.inner.BufferedPrinting.{all_macro_lines, printable_bytes}
 use Rattle.cweb_print.specs.declared.printer.buffered.Printable.{Printable}
 use Rattle.cweb_print.proofs.printer.Printer.append_defs.Given as goal
 

@@ -1,5 +1,5 @@
 use Rattle.cweb_print.proofs.Common.{◌∙◌, ap, arith, length, slice_range, subst, sym, take, List, ℕ, all_tokens, PrintsBy}
-use Rattle.cweb_print.specs.inner.Buffered.{Buffered}
+use Rattle.cweb_print.specs.inner.BufferedPrinting.{Buffered}
 use Rattle.cweb_print.proofs.OverlappingEnds.{whole_again}
 use Rattle.cweb_print.proofs.printer.Printer.append_range.Goals as goal
 

@@ -8,10 +8,10 @@ macros-init g c =
     let w = c.args.store.now in
     let sink = g.W.Sink.model c.args.out.now in
     record {
-      ordered = c.macros-parts.ensures.ordered;
-      within = c.macros-parts.ensures.within;
+      ordered = c.macros-parts.ensures.ranges.ordered;
+      within = c.macros-parts.ensures.ranges.within;
       wrote = subst (λ (t : List ℕ). WrittenBefore sink sink (all_lines w) t)
-          (sym (ap (lines w) c.macros-parts.ensures.numbers ∙ lines_are w)) (before_none sink (all_lines w));
+          (sym (ap (lines w) c.macros-parts.ensures.ranges.numbers ∙ lines_are w)) (before_none sink (all_lines w));
     }
 
 pub macros-preserved : goal.macros-preserved

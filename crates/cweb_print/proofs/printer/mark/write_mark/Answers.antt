@@ -1,6 +1,6 @@
 use Rattle.cweb_print.proofs.Common.{◌≡◌, ◌++◌, ◌∙◌, ap, sym, List, ℕ, codes, decimal, append_assoc, mark_line}
 use Rattle.cweb_files.proofs.Appending.{wrote_then, wrote_until, wrote_same}
-use Rattle.cweb_print.specs.inner.PrintParts.{file_name_end}
+use Rattle.cweb_print.specs.inner.Classes.{file_name_end}
 use Rattle.cweb_print.proofs.printer.mark.write_mark.Goals as goal
 
 -- The mark as its two parts.

@@ -1,3 +1,4 @@
+use Rattle.cweb_input.proofs.Found.{IfOk-map}
 use Rattle.cweb_scan.proofs.Common.{sym, ap, drop, ◌∙◌, is_unclosed, Reached, comment_match, IsLine-take}
 use Rattle.cweb_rules.proofs.UnitNewlines.{none-ends}
 use Rattle.cweb_scan.proofs.InLineItemSteps.{whole_at}
@@ -26,5 +27,6 @@ returns c =
     let ends = comment_goes_on (drop 2 u)
     ∙ sym (ap (λ (r : Reached). is_unclosed r.how) (rw c.split_at.ensures.back at c.reach-reached.ensures.value))
     ∙ sym c.is_unclosed.ensures ∙ c.if-is_unclosed.false in
-    whole_at c.in_ok-size.size u h _ c.take_comment.new.self (comment_match u) c.self.view_is c.requires.next.between
-    c.args.rest.some is.stays is.is (is.opens_is ∙ ends) c.in_ok-size.ensures
+    IfOk-map c.take_comment.result (λ size taken. whole_at size u h _ c.take_comment.new.self (comment_match u)
+    c.self.view_is c.requires.next.between c.args.rest.some is.stays is.is (is.opens_is ∙ ends) taken)
+    c.take_comment.ensures

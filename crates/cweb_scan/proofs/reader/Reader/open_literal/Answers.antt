@@ -1,3 +1,4 @@
+use Rattle.cweb_input.proofs.Found.{IfOk-map}
 use Rattle.cweb_scan.proofs.Common.{sym, ap, ◌∙◌, arith, drop, ◌+◌, literal_match, literal_prefix, look_in_literal, IsLine-take, ap, refl}
 use Rattle.cweb_rules.specs.inner.LineItems.{goes_on}
 use Rattle.cweb_rules.proofs.LineLiterals.{is_quoted-size}
@@ -44,5 +45,6 @@ returns c =
     let inner = c.split_at-2.ensures.back ∙ ap (λ n. drop (n + 1) u) p in
     let ends = sym (λ i. goes_on (look_in_literal (quote i)) (inner i)) ∙ sym c.continues.ensures
     ∙ c.if-continues.false in
-    whole_at c.in_ok-size.size u h _ c.take_literal.new.self (literal_match u) c.self.view_is c.requires.next.between
-    c.args.rest.some is.stays is.is (is.opens_is ∙ ends) c.in_ok-size.ensures
+    IfOk-map c.take_literal.result (λ size taken. whole_at size u h _ c.take_literal.new.self (literal_match u)
+    c.self.view_is c.requires.next.between c.args.rest.some is.stays is.is (is.opens_is ∙ ends) taken)
+    c.take_literal.ensures

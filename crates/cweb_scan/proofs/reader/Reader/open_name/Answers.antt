@@ -1,3 +1,4 @@
+use Rattle.cweb_input.proofs.Found.{IfOk-map}
 use Rattle.cweb_scan.proofs.Common.{sym, ap, drop, ◌∙◌, subst, is_unclosed, Reached, ReaderModel, name_match, takes_opener, IsLine-take, AppliesOver, []}
 use Rattle.cweb_rules.proofs.UnitNewlines.{none-ends}
 use Rattle.cweb_scan.proofs.InLineItemSteps.{whole_at}
@@ -28,7 +29,7 @@ returns c =
     (rw c.split_at.ensures.back at c.reach_after-reached.ensures.value)) ∙ sym c.is_unclosed.ensures
     ∙ c.if-is_unclosed.false in
     let f = name_match (takes_opener h.state) u in
-    whole_at c.in_ok-size.size u h _ c.take_name.new.self f c.self.view_is c.requires.next.between
-    c.args.rest.some is.stays is.is (is.opens_is ∙ ends) (subst (λ (v : ReaderModel).
-    AppliesOver (name_match (takes_opener v.state) u) u [] c.in_ok-size.size c.self.inside.scanner c.take_name.new.self)
-    c.self.view_is c.in_ok-size.ensures)
+    IfOk-map c.take_name.result (λ size taken. whole_at size u h _ c.take_name.new.self f c.self.view_is
+    c.requires.next.between c.args.rest.some is.stays is.is (is.opens_is ∙ ends) (subst (λ (v : ReaderModel).
+    AppliesOver (name_match (takes_opener v.state) u) u [] size c.self.inside.scanner c.take_name.new.self)
+    c.self.view_is taken)) c.take_name.ensures

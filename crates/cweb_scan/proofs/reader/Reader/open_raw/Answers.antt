@@ -1,8 +1,9 @@
+use Rattle.cweb_input.proofs.Found.{IfOk-map}
 use Rattle.cweb_scan.proofs.Common.{sym, ap, ◌∙◌, drop, raw_match, look_in_raw, reach, Reached, is_unclosed, Open, IsLine-take}
 use Rattle.cweb_rules.proofs.UnitNewlines.{none-ends}
 use Rattle.cweb_scan.proofs.InLineItemSteps.{whole_at}
 use Rattle.cweb_scan.proofs.PendingLiterals.{is_raw, raw_goes_on}
-use Rattle.cweb_rules.specs.inner.RawOpeners.{raw_opener_len}
+use Rattle.cweb_rules.specs.inner.LineItems.{raw_opener_len}
 use Rattle.cweb_scan.proofs.reader.Reader.open_raw.Goals as goal
 
 pub hold-requires-clause-source : goal.hold-requires-clause-source
@@ -32,6 +33,6 @@ returns c =
     let inner = c.split_at.ensures.back ∙ ap (λ n. drop n u) c.raw_opener_len.ensures.value in
     let ends = sym (c.is_unclosed.ensures ∙ ap (λ (r : Reached). is_unclosed r.how) c.reach.ensures.value
     ∙ (λ i. is_unclosed (reach (look_in_raw (closer i)) Open (inner i)).how)) ∙ c.if-is_unclosed.false in
-    whole_at c.in_ok-size.size u h _ c.take_raw.new.self (raw_match u) c.self.view_is c.requires.next.between
-    c.args.rest.some is.stays is.is (is.opens_is ∙ raw_goes_on u (drop (raw_opener_len u) u)
-    ∙ ends) c.in_ok-size.ensures
+    IfOk-map c.take_raw.result (λ size taken. whole_at size u h _ c.take_raw.new.self (raw_match u) c.self.view_is
+    c.requires.next.between c.args.rest.some is.stays is.is (is.opens_is ∙ raw_goes_on u (drop (raw_opener_len u) u)
+    ∙ ends) taken) c.take_raw.ensures

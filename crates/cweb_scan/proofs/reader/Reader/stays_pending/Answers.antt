@@ -1,6 +1,5 @@
 use Rattle.cweb_scan.proofs.Common.{List, ℕ, ap, sym, ◌∙◌, subst, opens_in, is_unclosed, Reached, reach, look_in_raw, look_in_literal, IsPending, ReaderModel, with_line, pending_text, Open as Unclosed, false}
-use Rattle.cweb_rules.specs.inner.LineItems.{goes_on}
-use Rattle.cweb_rules.specs.inner.RawOpeners.{raw_closer_of}
+use Rattle.cweb_rules.specs.inner.LineItems.{goes_on, raw_closer_of}
 use Rattle.cweb_scan.specs.declared.reader.open.Open.{Open}
 use Rattle.cweb_scan.specs.declared.reader.open.Open.TheVariants.{Comment, Name, Literal, RawLiteral}
 use Rattle.cweb_scan.proofs.PendingItems.{pending_now}

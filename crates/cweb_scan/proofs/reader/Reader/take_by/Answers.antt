@@ -1,4 +1,5 @@
 use Rattle.cweb_rules.specs.declared.rule.Rule.TheVariants as rule
+use Rattle.cweb_input.proofs.Found.{IfOk-map}
 use Rattle.cweb_scan.proofs.Common.{◌&&◌, false, ap, sym, ◌∙◌, section_match, in_c, c_match_by, is_c, names_include}
 use Rattle.cweb_scan.proofs.InLineItemSteps.{closed_at}
 use Rattle.cweb_scan.proofs.InLineRules.{closes, rule_closed}
@@ -47,18 +48,18 @@ take_rule-requires-clause-two c =
     let s = c.args.self.now.state in
     two_fit (is_c s.context && names_include s) c.args.rest.bytes.now c.args.rule c.requires.first
 
-pub returns-in_ok-size-in-Section : goal.returns-in_ok-size-in-Section
-returns-in_ok-size-in-Section c =
+pub returns-in-Section : goal.returns-in-Section
+returns-in-Section c =
     let u = c.args.rest.bytes.now in
     let h = c.args.self.now in
     let f = rule_closed h.state.context (names_include h.state)
     u c.args.rule c.requires.next.context c.requires.plain c.requires.first (ap closes c.in-Section.is) in
-    closed_at c.in_ok-size-in-Section.size u h _ _ (section_match u) c.self.view_is c.requires.next.between
-    (part_head h.state.context c.requires.next.context) c.args.rest.line c.args.rest.some
-    (f.0 ∙ ap (c_match_by in_c false u) c.in-Section.is) f.1 c.in_ok-size-in-Section.ensures
+    IfOk-map c.take_section.result (λ size taken. closed_at size u h _ _ (section_match u) c.self.view_is
+    c.requires.next.between (part_head h.state.context c.requires.next.context) c.args.rest.line c.args.rest.some
+    (f.0 ∙ ap (c_match_by in_c false u) c.in-Section.is) f.1 taken) c.take_section.ensures
 
-pub returns-in_ok-size-in_default : goal.returns-in_ok-size-in_default
-returns-in_ok-size-in_default c =
+pub returns-in_default : goal.returns-in_default
+returns-in_default c =
     let u = c.args.rest.bytes.now in
     let h = c.args.self.now in
     let s = h.state in
@@ -68,7 +69,7 @@ returns-in_ok-size-in_default c =
     c.in_default.not-Section c.in_default.not-Code c.in_default.not-RawLiteral c.in_default.not-Literal no_end in
     let f = rule_closed s.context
     (names_include s) u r c.requires.next.context c.requires.plain c.requires.first (ends_closes r ends) in
-    closed_at c.in_ok-size-in_default.size u h _ _
+    IfOk-map c.take_rule.result (λ size taken. closed_at size u h _ _
     (c_match_by in_c false u r) c.self-in_default.view_is c.requires.next.between
-    (part_head s.context c.requires.next.context) c.args.rest.line c.args.rest.some f.0 f.1
-    c.in_ok-size-in_default.ensures
+    (part_head s.context c.requires.next.context) c.args.rest.line c.args.rest.some f.0 f.1 taken)
+    c.take_rule.ensures

@@ -1,3 +1,4 @@
+use Rattle.cweb_input.proofs.Found.{IfOk-map}
 use Rattle.cweb_scan.proofs.Common.{◌≡◌, true, false, get_or, ap, sym, ◌∙◌, subst, effect_match, Effect, names_include, Applies, effect_in, is_name_effect, ReaderModel}
 use Rattle.cweb_scan.proofs.InLineItemSteps.{closed_at}
 use Rattle.cweb_scan.proofs.CodeSteps.{plain_prefix}
@@ -16,7 +17,7 @@ returns c =
     let f =
     plain_prefix h.state.context (names_include h.state) u c.requires.next.context c.requires.section c.requires.opens
     plain in
-    closed_at c.in_ok-size.size u h _ _ (effect_match e true u)
+    IfOk-map c.take_item.result (λ size taken. closed_at size u h _ _ (effect_match e true u)
     c.self.view_is c.requires.next.between c.requires.next.context c.args.rest.line c.args.rest.some f.0
-    f.1 (subst (λ (k : Effect). Applies (effect_match k true u) u c.in_ok-size.size c.self.inside.scanner
-    c.take_item.new.self) same c.in_ok-size.ensures)
+    f.1 (subst (λ (k : Effect). Applies (effect_match k true u) u size c.self.inside.scanner
+    c.take_item.new.self) same taken)) c.take_item.ensures

@@ -1,3 +1,4 @@
+use Rattle.cweb_input.proofs.Found.{IfOk-map}
 use Rattle.cweb_scan.proofs.Common.{sym, ◌∙◌, section_match, names_include}
 use Rattle.cweb_scan.proofs.InLineItemSteps.{closed_at}
 use Rattle.cweb_scan.proofs.CodeSteps.{section_text, skipped_at, text_head}
@@ -13,5 +14,6 @@ returns-then-starts_section c =
     let h = c.args.self.now in
     let f = section_text h.state.context
     (names_include h.state) u c.requires.context (sym c.starts_section.ensures ∙ c.if-starts_section.true) in
-    closed_at c.in_ok-size.size u h _ _ (section_match u) c.self.view_is c.requires.between
-    (text_head h.state.context c.requires.context) c.args.rest.line c.args.rest.some f.0 f.1 c.in_ok-size.ensures
+    IfOk-map c.take_section.result (λ size taken. closed_at size u h _ _ (section_match u) c.self.view_is
+    c.requires.between (text_head h.state.context c.requires.context) c.args.rest.line c.args.rest.some f.0 f.1 taken)
+    c.take_section.ensures

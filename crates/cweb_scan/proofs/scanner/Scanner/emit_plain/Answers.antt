@@ -1,5 +1,5 @@
 use Rattle.cweb_scan.proofs.Common.{sym, ap, subst, is_c, in_open_part, Contents, token_model, IsTied, IsPlainC, Directive}
-use Rattle.cweb_scan.specs.inner.Stages.{new_directive}
+use Rattle.cweb_scan.specs.inner.ScanParts.{new_directive}
 use Rattle.cweb_scan.proofs.Plains.{none_open, tied_plain}
 use Rattle.cweb_scan.proofs.scanner.Scanner.emit_plain.Goals as goal
 

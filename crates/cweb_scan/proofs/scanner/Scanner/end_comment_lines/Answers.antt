@@ -1,5 +1,5 @@
 use Rattle.cweb_scan.proofs.Common.{ap, ◌∙◌, arith, get_or, drop, ◌+◌, passed, comment_line_end, ScanState}
-use Rattle.cweb_store.specs.surface.Growing.{token_count}
+use Rattle.cweb_store.specs.surface.Tokens.{token_count}
 use Rattle.cweb_scan.specs.inner.ScanParts.{no_place}
 use Rattle.cweb_scan.proofs.PendingItems.{passed_next}
 use Rattle.cweb_scan.proofs.Weights.{comment_line_end-tokens}

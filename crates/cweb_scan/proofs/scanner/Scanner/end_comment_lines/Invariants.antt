@@ -1,5 +1,5 @@
 use Rattle.cweb_scan.proofs.Common.{◌≡◌, ◌≤◌, ◌+◌, drop, passed, comment_line_end}
-use Rattle.cweb_store.specs.surface.Growing.{token_count}
+use Rattle.cweb_store.specs.surface.Tokens.{token_count}
 use Rattle.cweb_scan.proofs.scanner.Scanner.end_comment_lines.Given as goal
 
 abbrev pub invariant-lines : goal.invariant-lines

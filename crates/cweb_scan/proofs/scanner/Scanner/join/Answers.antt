@@ -1,5 +1,5 @@
 use Rattle.cweb_scan.proofs.Common.{sym, ap, subst, arith, ScanState, Contents, IsTied}
-use Rattle.cweb_store.specs.surface.Growing.{token_count}
+use Rattle.cweb_store.specs.surface.Tokens.{token_count}
 use Rattle.cweb_scan.proofs.TiedSteps.{tied_dropped}
 use Rattle.cweb_store.proofs.CallerLemmas.{token_count_dropped}
 use Rattle.cweb_scan.proofs.scanner.Scanner.join.Goals as goal

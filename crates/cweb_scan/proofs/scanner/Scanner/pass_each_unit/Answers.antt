@@ -1,5 +1,5 @@
 use Rattle.cweb_scan.proofs.Common.{sym, ◌∙◌, length, Open, eqb-true}
-use Rattle.cweb_rules.specs.inner.Looks.{look_of}
+use Rattle.cweb_rules.specs.inner.LineItems.{look_of}
 use Rattle.cweb_rules.proofs.Walks.{nonempty, units_from}
 use Rattle.cweb_scan.proofs.QuotedItems.{passes_first, passes_last, no_units, ended_units}
 use Rattle.cweb_scan.proofs.scanner.Scanner.pass_each_unit.Goals as goal

@@ -1,5 +1,5 @@
 use Rattle.cweb_scan.proofs.Common.{length, reach, Open}
-use Rattle.cweb_rules.specs.inner.Looks.{look_of}
+use Rattle.cweb_rules.specs.inner.LineItems.{look_of}
 use Rattle.cweb_scan.proofs.QuotedItems.{PassesRest}
 use Rattle.cweb_scan.proofs.scanner.Scanner.pass_each_unit.Given as goal
 

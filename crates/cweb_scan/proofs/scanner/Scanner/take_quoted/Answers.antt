@@ -1,5 +1,5 @@
 use Rattle.cweb_scan.proofs.Common.{List, ℕ, ◌++◌, ap, ◌∙◌, arith, take, body, reach, unescaped, unit_bytes, at_line_ends, emit_literal, Open, append-nil}
-use Rattle.cweb_rules.specs.inner.Looks.{look_of}
+use Rattle.cweb_rules.specs.inner.LineItems.{look_of}
 use Rattle.cweb_scan.proofs.QuotedItems.{quoted_taken, quoted_lines, quoted_passes}
 use Rattle.cweb_scan.proofs.scanner.Scanner.take_quoted.Goals as goal
 

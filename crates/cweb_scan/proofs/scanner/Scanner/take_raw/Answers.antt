@@ -1,5 +1,6 @@
+use Rattle.std.specs.Prelude.{IfOk}
 use Rattle.cweb_scan.proofs.Common.{ℕ, List, take, drop, ap, ◌∙◌, subst, raw_match, reach, look_in_raw, quoted_match, at_line_ends, AppliesOver, RuleMatch, Cut, ◌≡◌}
-use Rattle.cweb_rules.specs.inner.RawOpeners.{raw_opener_len, raw_closer_of}
+use Rattle.cweb_rules.specs.inner.LineItems.{raw_opener_len, raw_closer_of}
 use Rattle.cweb_scan.proofs.scanner.Scanner.take_raw.Goals as goal
 
 same : (t closer : List ℕ) (n : ℕ) → n ≡ raw_opener_len t → closer ≡ raw_closer_of t
@@ -12,7 +13,7 @@ take_quoted-requires-clause-lines c = ap (λ (f : RuleMatch). at_line_ends 1 (ta
     (c.deref.ensures.value ∙ c.in_ok-closer.ensures)) ∙ c.requires.lines
 
 pub returns : goal.returns
-returns c = subst (λ (f : RuleMatch). AppliesOver f c.args.text.now c.args.places.now c.in_ok-size.size c.args.self.now
-    c.take_quoted.new.self)
+returns c = subst (λ (f : RuleMatch). IfOk c.take_quoted.result (λ n. AppliesOver f c.args.text.now
+    c.args.places.now n c.args.self.now c.take_quoted.new.self))
     (same c.args.text.now c.deref.result.now c.raw_opener_len.result c.raw_opener_len.ensures.value
-    (c.deref.ensures.value ∙ c.in_ok-closer.ensures)) c.in_ok-size.ensures
+    (c.deref.ensures.value ∙ c.in_ok-closer.ensures)) c.take_quoted.ensures

@@ -1,6 +1,5 @@
-use Rattle.cweb_scan.proofs.Common.{IsLine-take, include_match}
+use Rattle.cweb_scan.proofs.Common.{IsLine-take, include_match, arith, punctuator_fits}
 use Rattle.cweb_rules.proofs.UnitNewlines.{none-ends}
-use Rattle.cweb_scan.proofs.Common.{arith, punctuator_fits}
 use Rattle.cweb_scan.proofs.scanner.Scanner.take_rule.Goals as goal
 
 pub split_at-requires-in_default : goal.split_at-requires-in_default

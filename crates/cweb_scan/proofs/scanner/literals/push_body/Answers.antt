@@ -1,5 +1,5 @@
 use Rattle.cweb_scan.proofs.Common.{List, ℕ, ◌++◌, ◌∙◌, ap, sym, arith, reach, subst, Open}
-use Rattle.cweb_rules.specs.inner.Looks.{look_of}
+use Rattle.cweb_rules.specs.inner.LineItems.{look_of}
 use Rattle.cweb_rules.proofs.Lasts.{reach-fits}
 use Rattle.cweb_scan.proofs.FurtherLiterals.{HasNone, none_valid, text_stays}
 use Rattle.cweb_scan.proofs.PlainBodies.{whole_is}

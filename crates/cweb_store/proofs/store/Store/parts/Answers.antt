@@ -9,4 +9,4 @@ returns-clause-some c =
     let ps = c.args.self.now.parts in
     let rs = spec.resolutions c.args.self.now.occurrences in
     subst (λ (xs : List Part). IsTrue (has_part rs ps c.args.name) ↔ 0 < length xs)
-    (sym c.wanted.ensures.numbers) (numbers-some (is_of rs c.args.name) ps)
+    (sym c.wanted.ensures.ranges.numbers) (numbers-some (is_of rs c.args.name) ps)

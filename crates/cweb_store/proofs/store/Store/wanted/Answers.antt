@@ -9,28 +9,20 @@ met : (c : goal.After-new) → c.new.result
     ≡ wanted_in c.self.inside.answers.resolutions.items c.args.wanted (ranges_from 0 c.self.inside.parts)
 met c = grind arith
 
-pub returns-clause-numbers : goal.returns-clause-numbers
-returns-clause-numbers c =
+pub returns-clause-ranges : goal.returns-clause-ranges
+returns-clause-ranges c =
+    let ps = c.args.self.now.parts in
+    let test = is_wanted (spec.resolutions c.args.self.now.occurrences) c.args.wanted in
     let resolutions = c.self.invariant.answers.settled ∙ ap (λ v. spec.resolutions v.occurrences) c.self.view_is in
-    met c ∙ (λ i. wanted_in (resolutions i) c.args.wanted (ranges_from 0 (c.self.view_is i).parts))
-    ∙ part-ranges (is_wanted (spec.resolutions c.args.self.now.occurrences) c.args.wanted) 0 c.args.self.now.parts
-
-pub returns-clause-text : goal.returns-clause-text
-returns-clause-text c =
-    let ps = c.args.self.now.parts in
-    ap (tokens_at (all_tokens ps)) (returns-clause-numbers c)
-    ∙ tokens_at-numbers (is_wanted (spec.resolutions c.args.self.now.occurrences) c.args.wanted) ps
-
-pub returns-clause-ordered : goal.returns-clause-ordered
-returns-clause-ordered c = subst (λ (xs : List Part). All (λ p. p.first ≤ p.after) xs)
-    (sym (returns-clause-numbers c))
-    (numbers-ordered (is_wanted (spec.resolutions c.args.self.now.occurrences) c.args.wanted) c.args.self.now.parts)
-
-pub returns-clause-within : goal.returns-clause-within
-returns-clause-within c =
-    let ps = c.args.self.now.parts in
-    subst (λ (xs : List Part). All (λ p. p.after ≤ length (all_tokens ps)) xs) (sym (returns-clause-numbers c))
-    (numbers-within (is_wanted (spec.resolutions c.args.self.now.occurrences) c.args.wanted) ps)
+    let numbers = met c ∙ (λ i. wanted_in (resolutions i) c.args.wanted (ranges_from 0 (c.self.view_is i).parts))
+    ∙ part-ranges test 0 ps in
+    record {
+      numbers = numbers;
+      text = ap (tokens_at (all_tokens ps)) numbers ∙ tokens_at-numbers test ps;
+      ordered = subst (λ (xs : List Part). All (λ p. p.first ≤ p.after) xs) (sym numbers) (numbers-ordered test ps);
+      within = subst (λ (xs : List Part). All (λ p. p.after ≤ length (all_tokens ps)) xs) (sym numbers)
+          (numbers-within test ps);
+    }
 
 pub returns-clause-few : goal.returns-clause-few
 returns-clause-few c = grind (arith, met, length-map, length-filter, count_by-le-length)

@@ -1,5 +1,5 @@
 use Rattle.std.proofs.Common.{rules}
-use Rattle.cweb_texts.specs.inner.Keys.{hash_of}
+use Rattle.cweb_texts.specs.inner.Words.{hash_of}
 use Rattle.cweb_texts.proofs.words.key.hash.Goals as goal
 
 pub returns : goal.returns

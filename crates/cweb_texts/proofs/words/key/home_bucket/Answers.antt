@@ -1,6 +1,6 @@
 use Rattle.cweb_texts.proofs.Common.{ℕ, ◌*◌, ◌/◌, ◌^◌, ◌<◌, ap, arith}
 use Rattle.std.proofs.Math.Nat.{div-lt_iff_lt-mul, mul-lt-mul_of_pos_left, mul_comm}
-use Rattle.cweb_texts.specs.inner.Keys.{home_bucket_of}
+use Rattle.cweb_texts.specs.inner.Words.{home_bucket_of}
 use Rattle.cweb_texts.proofs.words.key.home_bucket.Goals as goal
 
 pub returns-clause-is : goal.returns-clause-is

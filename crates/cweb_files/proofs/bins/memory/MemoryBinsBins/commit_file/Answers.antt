@@ -3,7 +3,8 @@ use Rattle.std.specs.Prelude.{option_map}
 use Rattle.cweb_files.specs.Files.{File}
 use Rattle.cweb_files.specs.Sinks.{SinkModel, changed, committed}
 use Rattle.cweb_files.specs.declared.bins.memory.BinFile.{BinFile}
-use Rattle.cweb_files.specs.surface.MemoryBins.{as_file, bin_file_name, bin_file_bytes, last_refusal, files_with_draft}
+use Rattle.cweb_files.specs.surface.MemoryDevices.{as_file, bin_file_name, bin_file_bytes, last_refusal}
+use Rattle.cweb_files.specs.surface.MemoryDevices.{files_with_draft}
 use Rattle.cweb_files.proofs.Commits.{commits}
 use Rattle.cweb_files.proofs.bins.memory.MemoryBinsBins.commit_file.Goals as goal
 
