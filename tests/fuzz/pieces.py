@@ -1,4 +1,5 @@
 """Pieces of webs, good and bad ones, for random webs and for mutations."""
+from model.programs import LETTERS
 
 WORDS = [b'a', b'b', b'foo', b'int', b'x', b'e', b'E', b'p', b'L', b'u', b'U', b'u8', b'R', b'LR',
          b'include', b'define', b'_x', b'$', b'a$b', b'\xfc', b'f\xfcr', b'\xe4\xfc', b'R2', b'x1']
@@ -57,8 +58,9 @@ OUT_NAMES = [b'out.h', b'a.h', b'sub/o.h', b'w.c', b'', b'..', b'sub/', b'gone/x
              b'a%b', b'a$b', b'a#:b', b'a\\', b'a\\ b', b'\xff', b'a\x01', b'\x7f', b'i1.w',
              b'./out.h', b'x' * 70, b'x' * 254, b'x' * 255, b'a\\%b', b'a\\\\:b', b'\xc3\xbc.h',
              b'sub/.']
-OPTIONS = [b'-bph', b'-bp', b'+s', b'-h', b'-b', b'-p', b'+bphs', b'-z', b'+BPHS', b'+m', b'-m',
-           b'+M', b'-b-', b'+1', b'--', b'++', b'-sm', b'+mz', b'-\xc3\xbc', b'-bh', b'+mm']
+OPTIONS = [b'-bph', b'-bp', b'+bphs', b'-z', b'+BPHS', b'+m', b'-m', b'+M', b'-b-', b'+1', b'--',
+           b'++', b'-sm', b'+mz', b'-\xc3\xbc', b'-bh', b'+mm']
+OPTIONS += [(b'-' if on else b'+') + letter.encode() for letter, on in LETTERS.items()]
 ODD_WORDS = [b'w', b'w.w', b'-', b'+', b'', b'gone', b'c', b'c.ch', b'\xff', b'a\x01', b'sub/w',
              b'sub', b'sub/..', b'./w', b'..', b'.', b'v.web', b'o', b'o.c', b'sub/o', b'a$b',
              b'a b', b'a#%:', b'a\\', b'gone/o', b'w/', b'o.h', b'lib/o.x', b'w.', b'.w']

@@ -10,7 +10,7 @@ from .outputs import Outputs
 from .printing import Printer
 from .scan import Scan
 
-ON_BY_DEFAULT = 'bph'
+LETTERS = {'b': True, 'p': True, 'h': True, 's': False}     # with their defaults
 
 
 class Run(NamedTuple):
@@ -71,7 +71,7 @@ class Tangled:
 
 
 def ctangle(words, inputs, folder, out, log):
-    on = {letter: words.options.get(letter, letter in ON_BY_DEFAULT) for letter in 'bphs'}
+    on = LETTERS | words.options
     if on['b']:
         log.append(b'This is CTANGLE, profile of CWEB 3')
     tangled = Tangled(words, inputs, folder)

@@ -42,7 +42,7 @@ impl MemoryShelf {
         }
     }
 
-    /// Replaces the contents of a name. An open reader still reads the earlier contents.
+    /// Replaces the contents of a name. An open reader keeps the earlier ones. A refused call changes nothing.
     pub fn put(&mut self, name: &str, text: &[u8]) -> Result<(), AllocError>
         ensures ok { OnOk result
             (shelf_contents self.new
@@ -66,8 +66,8 @@ impl Shelf for MemoryShelf {
 
     ghost model = { shelf_model };
 
+    /// The last entry of the name counts. It never fails and allocates nothing.
     fn fetch(&mut self, name: &str) -> Result<Option<MemoryReader>, AllocError>
-        // It allocates nothing.
         ensures ok { IsOk result }
         ensures found { Observed (shelf_model self.old) (λ seen.
             IfOk result (Finds seen name.now)) }
@@ -148,6 +148,7 @@ impl Sink for MemorySink {
 
     ghost model = { sink_model };
 
+    /// Within the capacity it never fails.
     fn write(&mut self, piece: &[u8]) -> Result<usize, SinkFault>
         requires { sink_failed self.old + 1 < 2 ^ 64 }
         ensures failed { CountsFailure (sink_failed self.old) (sink_failed self.new) result }
@@ -155,7 +156,6 @@ impl Sink for MemorySink {
         ensures bytes { OnOk result (sink_bytes self.new ≡ sink_bytes self.old ++ piece.now) }
         ensures err { OnErr result (sink_bytes self.new ≡ sink_bytes self.old) }
         ensures room { sink_room self.old ≤ sink_room self.new }
-        // Within the capacity it never fails.
         ensures within_room { length (sink_bytes self.old) + length piece.now ≤ sink_room self.old
             → IsOk result }
     {

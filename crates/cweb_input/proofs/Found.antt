@@ -1,5 +1,5 @@
 -- What a search under two names finds.
-use Rattle.cweb_input.proofs.Common.{◌≡◌, ℕ, Bool, true, false, List, Option, Some, None, Err, refl, sym, ◌∙◌, ap}
+use Rattle.cweb_input.proofs.Common.{◌≡◌, ℕ, Bool, true, false, List, Option, Some, None, Err, refl, arith}
 use Rattle.std.specs.Prelude.{Result, Ok, IfOk, OnOk, if◌then◌else◌}
 use Rattle.std.specs.Str.{IsUtf8, is_utf8}
 use Rattle.std.proofs.lemmas.Str.{IsUtf8-from_is_utf8, is_utf8-from_IsUtf8}
@@ -22,15 +22,11 @@ module _ (texts : List ℕ → Option (List ℕ)) (inputs : Option (List ℕ)) (
   world = record { texts = texts; inputs = inputs }
 
   pub found_first : (found : Found) → Some found ≡ found_under texts bytes → Some found ≡ found_at world name
-  found_first found is =
-      ap (λ f. option_or f (in_folder world name)) (is ∙ ap (found_under texts) same)
-      ∙ ap (λ b. found_when b world name) (sym (is_utf8-from_IsUtf8 name text))
+  found_first found is = grind (arith, is_utf8-from_IsUtf8)
 
   pub found_second : (found : Option (Found)) → None ≡ found_under texts bytes → found ≡ in_folder world name →
       found ≡ found_at world name
-  found_second found none is =
-      is ∙ ap (λ f. option_or f (in_folder world name)) (none ∙ ap (found_under texts) same)
-      ∙ ap (λ b. found_when b world name) (sym (is_utf8-from_IsUtf8 name text))
+  found_second found none is = grind (arith, is_utf8-from_IsUtf8)
 
 pub IfOk-map : {A E : Type 0} {P Q : A → Type 0} (r : Result A E) → ((x : A) → P x → Q x) → IfOk r P → IfOk r Q
 IfOk-map (Ok x) f p = f x p

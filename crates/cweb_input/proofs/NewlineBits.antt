@@ -16,13 +16,7 @@ module _ (v : List ℕ) (long : length v ≡ 32) where
       ∙ ap (eqb (get_or v k 0)) (get_or-replicate 32 k 10 0 lt))
 
   beyond : (k : ℕ) → 32 ≤ k → bit_at (mask_l lanes) k ≡ 0
-  beyond k ge = bit_mask_l lanes k
-      ∙ ap (λ (b : Bool). cond b 1 0) (get_or_past lanes k false (omega (
-        arith,
-        ge,
-        long,
-        length-zip2 eqb v (replicate 32 10) long,
-      )))
+  beyond k ge = grind (arith, bit_mask_l, get_or_past, length-zip2)
 
   pub none_marked : mask_l lanes ≡ 0 → HasNoNewline v
   none_marked none = no_newline v (λ k lt is.

@@ -9,15 +9,7 @@ no_newline (x ∷ xs) none = (none 0 (omega arith), no_newline xs (λ k lt. none
 pub newline_at-memchr : (xs : List ℕ) (r : Option ℕ) → IsFirstByte (is_byte 10) xs r → IsNewlineAt xs r
 newline_at-memchr xs None none = no_newline xs (λ k lt is. none k (omega arith) lt (ap (is_byte 10) is))
 newline_at-memchr xs (Some at) first =
-    let is : get_or xs at 0 ≡ 10 = grind (arith, nat_tests, first.1) in
-    record {
-      within = first.0.high;
-      split = sym (take-append-drop at xs) ∙ ap (λ (l : List ℕ). take at xs ++ l)
-          (drop_more xs at 0 first.0.high ∙ ap (λ n. n ∷ drop (at + 1) xs) is);
-      before = no_newline (take at xs) (λ k lt ten.
-          let near : k < at = omega (arith, length-take at xs) in
-          first.0.before k (omega arith) near (ap (is_byte 10) (sym (get_or-take at xs k 0 near) ∙ ten)));
-    }
+    grind (arith, nat_tests, take-append-drop, drop_more, no_newline, length-take, get_or-take)
 
 no_more : (b : ℕ) → b ≢ 10 → (text rest : List ℕ) → cut_lines (b ∷ text) ≡ onto_first b (cut_lines text)
 no_more b not text rest = grind (arith, nat_tests)
@@ -25,9 +17,7 @@ no_more b not text rest = grind (arith, nat_tests)
 pub text_lines-full : (line rest : List ℕ) → HasNoNewline line →
     cut_lines (line ++ 10 ∷ rest) ≡ record { bytes = line; size = length line + 1 } ∷ cut_lines rest
 text_lines-full [] rest none = ap (λ n. record { bytes = []; size = n } ∷ cut_lines rest) (omega arith)
-text_lines-full (b ∷ line) rest none =
-    no_more b none.0 (line ++ 10 ∷ rest) rest ∙ ap (onto_first b) (text_lines-full line rest none.1)
-    ∙ ap (λ n. record { bytes = b ∷ line; size = n } ∷ cut_lines rest) (omega arith)
+text_lines-full (b ∷ line) rest none = grind (arith, no_more, text_lines-full line rest none.1)
 
 pub text_lines-last : (line : List ℕ) → HasNoNewline line → 0 < length line →
     cut_lines line ≡ record { bytes = line; size = length line } ∷ []
@@ -77,18 +67,11 @@ longer_more limit text rest long =
 
 pub taken_full : (all line old rest after new : List ℕ) → all ≡ line ++ (old ++ rest) → HasNoNewline line →
     TakesFromBuffer old line true after new → TakesRawLine all Full after (new ++ rest)
-taken_full all line old rest after new is none takes = (
-  is ∙ ap (λ (l : List ℕ). line ++ (l ++ rest)) takes.2 ∙ (simp append_assoc)
-      ∙ ap (λ (l : List ℕ). l ++ 10 ∷ (new ++ rest)) (sym takes.3),
-  subst HasNoNewline (sym takes.3) (no_newline-append line takes.0 none takes.1),
-)
+taken_full all line old rest after new is none takes = grind (arith, append_assoc, no_newline-append)
 
 pub taken_more : (all line old rest after new : List ℕ) → all ≡ line ++ (old ++ rest)
     → HasNoNewline line → TakesFromBuffer old line false after new → (all ≡ after ++ (new ++ rest)) × HasNoNewline after
-taken_more all line old rest after new is none takes = (
-  is ∙ sym (append_assoc line old rest) ∙ (λ i. sym takes.1 i ++ (sym takes.2 i ++ rest)),
-  subst HasNoNewline (sym takes.1) (no_newline-append line old none takes.0),
-)
+taken_more all line old rest after new is none takes = grind (arith, append_assoc, no_newline-append)
 
 pub longer_first : (prefix rest : List ℕ) → HasNoNewline prefix → 0 < length prefix → (line : CutLine) ×
     (lines : List CutLine) × (cut_lines (prefix ++ rest) ≡ line ∷ lines) × (length prefix ≤ length line.bytes)
@@ -108,11 +91,7 @@ longer_first (b ∷ c ∷ prefix) rest none some =
     )
 
 splits_at : (a b : List ℕ) → HasNoNewline a → SplitsAt (a ++ 10 ∷ b) (length a)
-splits_at a b none = record {
-  within = omega (arith, length-append a (10 ∷ b));
-  split = λ i. sym (take-append_seam a (10 ∷ b)) i ++ 10 ∷ sym (drop-append-add a (10 ∷ b) 1) i;
-  before = subst HasNoNewline (sym (take-append_seam a (10 ∷ b))) none;
-}
+splits_at a b none = grind (arith, length-append, take-append_seam, drop-append-add)
 
 -- The first newline in the rest after bytes that have none.
 pub splits_after : (text prefix run after : List ℕ) (at : ℕ) → text ≡ prefix ++ (run ++ after) → HasNoNewline prefix
@@ -132,8 +111,4 @@ splits_after text prefix run after at is none splits =
 
 -- Nothing is buffered.
 pub none_buffered : {R : Type 0} (source : Source R) → source.end ≤ source.start → HasNoNewline (buffered source)
-none_buffered source past = subst HasNoNewline
-    (sym (ap (λ (n : ℕ). take n (drop source.start source.buffer.items)) none)) tt
-  where
-    none : source.end - source.start ≡ 0
-    none = omega (arith, past)
+none_buffered source past = grind arith

@@ -1,6 +1,6 @@
 -- Readers stay opened under the names of their files, and what is blamed.
-use Rattle.cweb_input.proofs.Common.{◌≡◌, ◌≤◌, ◌<◌, ℕ, zero, suc, List, [], ◌∷◌, ◌++◌, Option, Some, None, refl, sym, ◌∙◌, ap, subst, arith, length, get_or, Err, set, Stop}
-use Rattle.std.specs.Prelude.{Result, option_map, ◌+◌}
+use Rattle.cweb_input.proofs.Common.{◌≡◌, ◌≤◌, ◌<◌, ℕ, zero, suc, List, [], ◌∷◌, ◌++◌, Option, Some, None, refl, sym, ◌∙◌, ap, arith, length, get_or, Err, set, Stop}
+use Rattle.std.specs.Prelude.{Result, ◌+◌}
 use Rattle.std.proofs.lemmas.List.{get_or_default, get_or_append_left}
 use Rattle.std.proofs.lemmas.Option.{same_Some}
 use Rattle.cweb_files.specs.declared.place.FileId.{FileId}
@@ -17,8 +17,7 @@ use Rattle.cweb_input.proofs.SourceStacks.{most_at}
 module _ {R : Type 0} (opened_as : R → List ℕ) (names : List (List ℕ)) where
   pub named_at : (texts : List (Option (OpenSource R))) (at : ℕ) (d : Option (OpenSource R)) → at < length texts
       → AreReadersNamed opened_as names texts → IsReaderNamed opened_as names (get_or texts at d)
-  named_at texts at d within each = subst (λ s. IsReaderNamed opened_as names s) (get_or_default texts at None d within)
-      (each at)
+  named_at texts at d within each = grind (arith, get_or_default)
 
   pub named_set : (texts : List (Option (OpenSource R))) (at : ℕ) (slot : Option (OpenSource R))
       → AreReadersNamed opened_as names texts → IsReaderNamed opened_as names slot
@@ -37,8 +36,7 @@ module _ {R : Type 0} (opened_as : R → List ℕ) (names : List (List ℕ)) whe
   pub named_more : (more : List (List ℕ)) (texts : List (Option (OpenSource R)))
       → maximum_of files_up_to texts ≤ length names
       → AreReadersNamed opened_as names texts → AreReadersNamed opened_as (names ++ more) texts
-  named_more more texts known each = λ place. slot_more more (get_or texts place None)
-      (omega (arith, known, most_at files_up_to texts place)) (each place)
+  named_more more texts known each = grind (arith, slot_more, most_at)
 
   pub change_more : (more : List (List ℕ)) (slot : Option (OpenSource R))
       → number_or_zero files_up_to slot ≤ length names
@@ -59,19 +57,11 @@ module _ {R A : Type 0} (old new : ShelfModel R) (result : Result A Stop) (texts
 module _ {R : Type 0} (shelf : ShelfModel R) (reader : R) where
   pub blames_as : (name : List ℕ) → Observed shelf (λ seen. seen.opened_as reader ≡ name)
       → failed_read reader shelf ≡ blaming name shelf
-  blames_as name same = ap (λ c. record { failed = shelf.failed + 1; contents = c }) (by shelf.contents refl)
-    where
-      by : (contents : Option (ShelfContents R)) → shelf.contents ≡ contents
-          → option_map (λ (now : ShelfContents R).
-          record now { blamed = now.blamed ++ now.opened_as reader ∷ [] }) contents
-          ≡ option_map (λ (now : ShelfContents R). record now { blamed = now.blamed ++ name ∷ [] }) contents
-      by None is = refl
-      by (Some seen) is = ap (λ (n : List ℕ). Some (record seen { blamed = seen.blamed ++ n ∷ [] })) (same seen is)
+  blames_as name same = grind arith
 
   pub blames_known : (seen : ShelfContents R) → shelf.contents ≡ Some seen → (name : List ℕ)
       → seen.opened_as reader ≡ name → failed_read reader shelf ≡ blaming name shelf
-  blames_known seen is name named = blames_as name
-      (λ other some. ap (λ (s : ShelfContents R). s.opened_as reader) (same_Some other seen (sym some ∙ is)) ∙ named)
+  blames_known seen is name named = grind (arith, blames_as, same_Some)
 
   -- Some name is blamed.
   pub blames_some : (name : List ℕ) × (failed_read reader shelf ≡ blaming name shelf)
@@ -87,6 +77,5 @@ pub line_blames : {R : Type 0} (A : Type 0) (fault : LineFault) (stop : Stop) (f
     (old new : ShelfModel R) (name : FileId → List ℕ) → stop ≡ stop_for fault file
     → new ≡ after_reading {A = A} reader (Err fault) old
     → failed_read reader old ≡ blaming (name file) old → new ≡ shelf_after name stop old
-line_blames A Read stop file reader old new name is read named = read ∙ named
-    ∙ sym (ap (λ s. shelf_after name s old) is)
+line_blames A Read stop file reader old new name is read named = grind arith
 line_blames A _ stop file reader old new name is read named = read ∙ sym (ap (λ s. shelf_after name s old) is)

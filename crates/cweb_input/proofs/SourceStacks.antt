@@ -1,6 +1,5 @@
 -- The stack of open sources in an array.
-use Rattle.cweb_input.proofs.Common.{Bool, true, false, nat_tests, append_assoc, ◌≡◌, ◌≢◌, ◌≤◌, ◌<◌, ◌+◌, ◌-◌, ℕ, zero, suc, List, [], ◌∷◌, ◌++◌, Option, Some, None, refl, sym, ◌∙◌, ap, subst, arith, length, get_or, Stop}
-use Rattle.std.specs.Prelude.{nat_eq}
+use Rattle.cweb_input.proofs.Common.{Bool, nat_tests, append_assoc, ◌≡◌, ◌≢◌, ◌≤◌, ◌<◌, ◌+◌, ◌-◌, ℕ, zero, suc, List, [], ◌∷◌, ◌++◌, Option, Some, None, refl, sym, ◌∙◌, ap, subst, arith, length, get_or, Stop}
 use Rattle.std.proofs.Common.{set, get_or-set_same, get_or-set_other}
 use Rattle.std.proofs.Math.Nat.{le-max_left, le-max_right, max-le}
 use Rattle.std.proofs.lemmas.List.{get_or_default}
@@ -55,10 +54,7 @@ module _ {R : Type 0} (left : R → List ℕ) where
   pub over-top : (low n : ℕ) (texts : List (Option (OpenSource R))) (slot : Option (OpenSource R)) (rest : List Thing)
       → low + n < length texts → things_over left low (suc n) (set texts (low + n) slot) rest
       ≡ things_at left slot ++ things_over left low n texts rest
-  over-top low n texts slot rest within = simp (
-    get_or-set_same texts (low + n) slot None within,
-    over-set low n texts (low + n) slot rest (omega arith),
-  )
+  over-top low n texts slot rest within = grind (arith, get_or-set_same, over-set)
 
 pub over-none : {R : Type 0} (left : R → List ℕ) (low n : ℕ) (texts : List (Option (OpenSource R)))
     (rest : List Thing) →
@@ -68,9 +64,7 @@ over-none left low n texts rest none = ap (λ k. things_over left low k texts re
 pub raws-append : (depth : ℕ) (may_match : Bool) (before following : List SourceLine)
     → raws depth may_match (before ++ following) ≡ raws depth may_match before ++ raws depth may_match following
 raws-append depth may_match [] following = refl
-raws-append depth may_match (line ∷ before) following = ap (λ (ts : List Thing). raw
-    (record { source = line; depth = depth; may_match = may_match }) ∷ ts)
-    (raws-append depth may_match before following)
+raws-append depth may_match (line ∷ before) following = grind (arith, raws-append depth may_match before following)
 
 -- The deepest source yields a line, has ended, or causes a stop.
 module _ {R : Type 0} (left : R → List ℕ) (texts : List (Option (OpenSource R)))
@@ -91,15 +85,12 @@ module _ {R : Type 0} (left : R → List ℕ) (texts : List (Option (OpenSource 
   top = omega arith
 
   open_now : things_over left low (depth - low) texts rest ≡ things_at left slot ++ under
-  open_now = ap (λ n. things_over left low n texts rest) deep
-      ∙ ap (λ t. things_at left t ++ under) (ap (λ p. get_or texts p None) top ∙ get_or_default _ _ _ d within)
+  open_now = grind (arith, deep, top, get_or_default)
 
   with_lines : (lines : List SourceLine) → lines_at left slot ≡ lines →
       things_over left low (depth - low) texts rest ≡ raws (number_or_zero source_depth slot) (matches_at slot) lines
       ++ under
-  with_lines lines are = open_now
-      ∙ ap (λ (ls : List SourceLine). raws (number_or_zero source_depth slot) (matches_at slot) ls
-      ++ under) are
+  with_lines lines are = grind (arith, open_now)
 
   pub top_passed : (sources : List SourceLine) → number_or_zero source_depth slot' ≡ number_or_zero source_depth slot
       → matches_at slot' ≡ matches_at slot → lines_at left slot ≡ sources ++ lines_at left slot'
@@ -160,35 +151,20 @@ pushed old new text within depth texts = λ left low le rest.
 
 pub stays_below : {R : Type 0} (old new : List (Option (OpenSource R))) (at low : ℕ) (slot : Option (OpenSource R)) →
     low ≤ at → new ≡ set old at slot → StaysBelow low old new
-stays_below old new at low slot le texts = λ left n le' rest. ap (λ ts. things_over left 0 n ts rest) texts
-    ∙ over-set left 0 n old at slot rest (omega (arith, le, le'))
+stays_below old new at low slot le texts = grind (arith, over-set)
 
 pub numbers_set : {R : Type 0} (old new : List (Option (OpenSource R))) (at place : ℕ)
     (d slot : Option (OpenSource R)) →
     at < length old → new ≡ set old at slot
     → number_or_zero line_number slot ≡ number_or_zero line_number (get_or old at d)
     → line_number_at place new ≡ line_number_at place old
-numbers_set old new at place d slot within texts same = by (nat_eq place at) refl
-  where
-    by : (b : Bool) → nat_eq place at ≡ b → line_number_at place new ≡ line_number_at place old
-    by true here =
-        let is : place ≡ at = grind (arith, nat_tests) in
-        (λ i. number_or_zero line_number (get_or (texts i) (is i) None))
-        ∙ ap (number_or_zero line_number) (get_or-set_same old at slot None within) ∙ same
-        ∙ (λ i. number_or_zero line_number (sym (get_or_default old at None d within) i))
-        ∙ (λ i. line_number_at (sym is i) old)
-    by false other =
-        let away : place ≢ at = grind (arith, nat_tests) in
-        (λ i. number_or_zero line_number (get_or (texts i) place None))
-        ∙ ap (number_or_zero line_number) (get_or-set_other old at place slot None away)
+numbers_set old new at place d slot within texts same =
+    grind (arith, nat_tests, get_or-set_same, get_or_default, get_or-set_other)
 
 pub numbers_below : {R : Type 0} (old new : List (Option (OpenSource R))) (at place : ℕ)
     (slot : Option (OpenSource R)) →
     place < at → new ≡ set old at slot → line_number_at place new ≡ line_number_at place old
-numbers_below old new at place slot below texts =
-    let away : place ≢ at = omega arith in
-    (λ i. number_or_zero line_number (get_or (texts i) place None))
-    ∙ ap (number_or_zero line_number) (get_or-set_other old at place slot None away)
+numbers_below old new at place slot below texts = grind (arith, get_or-set_other)
 
 pub deep-at : {R : Type 0} (place at p : ℕ) (texts : List (Option (OpenSource R))) (d : Option (OpenSource R)) →
     p ≡ place + at → at < length texts → gaps_from place texts ≡ 0 → DeepAt p (get_or texts at d)

@@ -39,20 +39,8 @@ takes_line : (taken : LineTermination) (old new bytes : List ℕ) (file number :
     ∷ numbered_lines file (number + 1)
     (cut_lines new)
 takes_line Ended old new bytes file number not takes = absurd (not refl)
-takes_line Last old new bytes file number not takes =
-    let none : length bytes ≡ length bytes + 0 = omega arith in
-    ap (λ (t : List ℕ). numbered_lines file number (cut_lines t)) takes.0
-    ∙ ap (numbered_lines file number) (text_lines-last bytes takes.1 takes.2)
-    ∙ ap (λ n. record {
-      line = record { bytes = trimmed bytes; place = record { file = record { 0 = file }; line = number } };
-      length = length bytes;
-      size = n;
-    } ∷ []) none
-    ∙ ap (λ (t : List ℕ). source_line file number bytes Last ∷ numbered_lines file (number + 1) (cut_lines t))
-    (sym takes.3)
-takes_line Full old new bytes file number not takes =
-    ap (λ (t : List ℕ). numbered_lines file number (cut_lines t)) takes.0
-    ∙ ap (numbered_lines file number) (text_lines-full bytes new takes.1)
+takes_line Last old new bytes file number not takes = grind (arith, text_lines-last)
+takes_line Full old new bytes file number not takes = grind (arith, text_lines-full)
 
 pub takes_first : (bytes raw old new : List ℕ) (file number depth : ℕ) (may_match : Bool) (taken : LineTermination)
     (before after : TakenCountersModel) → taken ≢ Ended → TakesRawLine old taken raw new → bytes ≡ trimmed raw
@@ -94,12 +82,9 @@ pub line_stops : (fault : LineFault) (stop : Stop) (text : List ℕ) (file : Fil
     (count : TakenCountersModel)
     → stop ≡ stop_for fault file → (fault ≡ TooLong → IsLongerThan LINE_LENGTH text)
     → StopsFor (FirstStops stop count (numbered_lines file.0 number (cut_lines text))) stop
-line_stops Read stop text file number count is long = subst (λ s. StopsFor
-    (FirstStops s count (numbered_lines file.0 number (cut_lines text))) s) (sym is) tt
-line_stops TooLong stop text file number count is long = subst (λ s. StopsFor (FirstStops s count
-    (numbered_lines file.0 number (cut_lines text))) s) (sym is) (first_too_long text file number count (long refl))
-line_stops NoMemory stop text file number count is long = subst
-    (λ s. StopsFor (FirstStops s count (numbered_lines file.0 number (cut_lines text))) s) (sym is) tt
+line_stops Read stop text file number count is long = grind arith
+line_stops TooLong stop text file number count is long = grind (arith, first_too_long)
+line_stops NoMemory stop text file number count is long = grind arith
 
 pub line_reads : (fault : LineFault) (stop : Stop) (file : FileId) → stop ≡ stop_for fault file → StopsReading stop
 line_reads Read stop file is = subst StopsReading (sym is) tt
@@ -136,8 +121,7 @@ trims_all xs n within other =
     ap trimmed split ∙ trimmed-byte (take n xs) (get_or xs n 0) other ∙ sym split
 
 pub before_blanks-clean : (b : ℕ) (xs : List ℕ) → b ≢ 10 → HasNoNewline xs → HasNoNewline (before_blanks b xs)
-before_blanks-clean b [] other clean = elim (is_blank b) as (λ v. HasNoNewline (cond v [] (b ∷ [])))
-    [ true ↦ tt | false ↦ (other, tt) ]
+before_blanks-clean b [] other clean = grind arith
 before_blanks-clean b (x ∷ xs) other clean = (other, clean)
 
 pub trimmed-clean : (xs : List ℕ) → HasNoNewline xs → HasNoNewline (trimmed xs)
@@ -145,8 +129,7 @@ trimmed-clean [] clean = tt
 trimmed-clean (b ∷ xs) clean = before_blanks-clean b (trimmed xs) clean.0 (trimmed-clean xs clean.1)
 
 before_blanks-length : (b : ℕ) (xs : List ℕ) → length (before_blanks b xs) ≤ 1 + length xs
-before_blanks-length b [] = elim (is_blank b) as (λ v. length (cond v [] (b ∷ [])) ≤ 1 + 0)
-    [ true ↦ omega arith | false ↦ omega arith ]
+before_blanks-length b [] = grind arith
 before_blanks-length b (x ∷ xs) = omega arith
 
 pub trimmed-length : (xs : List ℕ) → length (trimmed xs) ≤ length xs

@@ -24,7 +24,7 @@ impl BufferPool {
         }
     }
 
-    /// A free buffer, or else a new one.
+    /// A free buffer, or else a new one of the usual size.
     pub fn take(&mut self, alloc: Global) -> Result<Vec<u8>, AllocError>
         ensures some { IfOk result (λ buffer. 0 < length buffer.items) }
         ensures taken { IfOk result (λ buffer.

@@ -126,7 +126,7 @@ fn refill<S: Shelf>(shelf: &mut S, source: &mut Source<S::R>) -> Result<(), Line
     }
 }
 
-/// Takes the next line, without its newline, into `line`.
+/// Takes the next line, up to a newline or the end, into `line`, without the newline.
 pub fn next_line<S: Shelf>(
     shelf: &mut S,
     source: &mut Source<S::R>,

@@ -1,5 +1,5 @@
 -- Taken lines and reported faults as events of a merge.
-use Rattle.cweb_lines.proofs.Common.{◌≡◌, ℕ, List, [], ◌∷◌, ◌++◌, refl, arith, map, append-nil, append_assoc, Place, Line, Event, took, emitted, fault, opening, SoFar, EmitsLines, ReadsNext, ReportsPrefix, StopsAfterLines, Stopped, CountsLine, emitted_lines, reported_faults, openings, taken_lines, SourceFault, Stop, ReadFault, LineTooLong, TooMuchText, Memory}
+use Rattle.cweb_lines.proofs.Common.{◌≡◌, ℕ, List, [], ◌∷◌, ◌++◌, refl, arith, map, append-nil, append_assoc, Place, Line, Event, took, emitted, fault, opening, SoFar, EmitsLines, ReadsNext, ReportsPrefix, StopsAfterLines, Stopped, CountsLine, emitted_lines, reported_faults, openings, taken_lines, SourceFault, Stop, ReadFault, LineTooLong, TooMuchText, Memory, rules}
 
 -- A line was taken.
 pub takes_one : (old new : SoFar) (bytes : List ℕ) (place : Place) (t : CountsLine bytes place old.count new.count)
@@ -35,27 +35,13 @@ taken-faults (f ∷ faults) = taken-faults faults
 -- Faults were reported.
 pub reports : (faults : List SourceFault) (old new : SoFar) (later : List Event) → new.faults ≡ old.faults ++ faults
     → new.names ≡ old.names → new.count ≡ old.count → EmitsLines [] old new (map fault faults ++ later) later
-reports faults old new later reported names count = record {
-  events = map fault faults;
-  whole = refl;
-  emitted = emitted-faults faults;
-  faults = simp (reported, reported-faults);
-  names = simp (names, opened-faults, append-nil);
-  lines_are = simp (count, taken-faults) (omega arith);
-  bytes_are = simp (count, taken-faults) (omega arith);
-  short = rw (taken-faults faults) tt;
-}
+reports faults old new later reported names count =
+    grind (arith, emitted-faults, reported-faults, opened-faults, append-nil, taken-faults)
 
 -- A prefix of the faults was reported.
 pub reports_some : (faults : List SourceFault) (old new : SoFar) (later : List Event)
     → new.faults ≡ old.faults ++ faults → new.names ≡ old.names → ReportsPrefix old new (map fault faults ++ later)
-reports_some faults old new later reported names = record {
-  events = map fault faults;
-  later = later;
-  whole = refl;
-  faults = simp (reported, reported-faults);
-  names = simp (names, opened-faults, append-nil);
-}
+reports_some faults old new later reported names = grind (arith, reported-faults, opened-faults, append-nil)
 
 reads-append : (events more : List Event) → ReadsNext events → ReadsNext more → ReadsNext (events ++ more)
 reads-append [] more first then = then
@@ -68,29 +54,13 @@ reads-append (opening name ∷ events) more first then = absurd first
 module _ {old new : SoFar} {all : List Event} (more : List Event) where
   pub yields_more : {lines : List Line} {now : List Event} → EmitsLines lines old new all now
       → EmitsLines lines old new (all ++ more) (now ++ more)
-  yields_more yields = record {
-    events = yields.events;
-    whole = simp (yields.whole, append_assoc);
-    emitted = yields.emitted;
-    faults = yields.faults;
-    names = yields.names;
-    lines_are = yields.lines_are;
-    bytes_are = yields.bytes_are;
-    short = yields.short;
-  }
+  yields_more yields = grind (arith, append_assoc)
 
   pub prefix_more : ReportsPrefix old new all → ReportsPrefix old new (all ++ more)
-  prefix_more prefix = record {
-    events = prefix.events;
-    later = prefix.later ++ more;
-    whole = simp (prefix.whole, append_assoc);
-    faults = prefix.faults;
-    names = prefix.names;
-  }
+  prefix_more prefix = grind (arith, append_assoc)
 
   after_more : {stop : Stop} → StopsAfterLines [] stop old new all → StopsAfterLines [] stop old new (all ++ more)
-  after_more stops =
-      record { line = stops.line; later = stops.later ++ more; yields = yields_more stops.yields; why = stops.why }
+  after_more stops = search (rules, yields_more)
 
 pub stopped_more : (stop : Stop) (old new : SoFar) (all more : List Event) → ReadsNext more → Stopped stop old new all
     → Stopped stop old new (all ++ more)

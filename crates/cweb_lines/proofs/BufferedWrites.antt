@@ -52,12 +52,7 @@ within_on : (room : ℕ) (buffer : List ℕ) (a b : List Line) → buffer ≡ wr
     → (0 < length b → length buffer + length (written_lines (all_but_last b)) < room)
     → 1 < length (a ++ b) → length (written_lines (all_but_last (a ++ b))) < room
 within_on room buffer a [] is first then = rw append-nil first
-within_on room buffer a (line ∷ b) is first then = λ more. omega (
-  arith,
-  ap (λ (t : List ℕ). length t) is,
-  then (omega arith),
-  written-all_but_last a (line ∷ b) (omega arith),
-)
+within_on room buffer a (line ∷ b) is first then = grind (arith, written-all_but_last)
 
 pub held_on : (room : ℕ) (old so : SoFar) (all now : List Event) (Wrote : List ℕ → Type 0) (buffer : List ℕ) →
     BuffersLines room old so all now Wrote buffer
@@ -78,12 +73,7 @@ held_on room old so all now Wrote buffer h lines so' later next more is within =
 module _ (first mid : SinkModel) (room : ℕ) (old so : SoFar) (all now : List Event) (buffer : List ℕ)
     (h : BuffersLines room old so all now (Writes first mid) buffer) where
   pub written_on : (new : SinkModel) → Writes mid new buffer → HasWritten old so all now (Writes first new)
-  written_on new wrote = record {
-    lines = h.done ++ h.buffered;
-    yields = h.yields;
-    wrote = rw (text_of-append, ← h.piece_is)
-        (written_then (written_lines h.done) buffer first h.wrote wrote);
-  }
+  written_on new wrote = grind (arith, text_of-append, written_then)
 
   pub fails_prefix : (new : SinkModel) → FailsWithin buffer mid new
       → WritesPrefix (written_lines (emitted_lines all)) first new
@@ -93,14 +83,7 @@ module _ (first mid : SinkModel) (room : ℕ) (old so : SoFar) (all now : List E
       h.done h.buffered (emitted_lines now)) h.wrote h.piece_is fails
 
   pub fails_among : (new : SinkModel) → FailsWithin buffer mid new → FailsAmong room old so all now first new
-  fails_among new fails = record {
-    done = h.done;
-    buffered = h.buffered;
-    yields = h.yields;
-    fails = rw (h.wrote, h.piece_is) at fails;
-    some = h.some;
-    within = h.within;
-  }
+  fails_among new fails = grind arith
 
 -- Without buffering a write fault loses only one line.
 pub loses_line : (old new : SoFar) (all later : List Event) (before after : SinkModel) →

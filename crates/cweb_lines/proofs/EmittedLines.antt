@@ -53,8 +53,7 @@ pub merge_next_lines : {R : Type 0} (world : World) (entry : Option WaitingEntry
     ++ things) entry
     change files) ≡ events_of (sources_next slot lines) ++ merge world (state things entry change files)
 merge_next_lines world entry None s lines things change files in_place = absurd in_place
-merge_next_lines world entry (Some text) s lines things change files in_place = merge_lines
-    world entry text.may_match text.depth text.file.0 (text.line + 1) lines things change files in_place.is.passing
+merge_next_lines world entry (Some text) s lines things change files in_place = grind (arith, merge_lines)
 
 numbered-length : (file number : ℕ) (lines : List (List ℕ))
     → length (numbered_lines file number (map line_with_newline lines)) ≡ length lines
@@ -102,14 +101,8 @@ numbered-prefix : (file number n : ℕ) (lines : List (List ℕ)) → length (wr
     ≤ length (with_newlines (take n lines))
 numbered-prefix file number zero lines = omega arith
 numbered-prefix file number (suc n) [] = omega arith
-numbered-prefix file number (suc n) (line ∷ lines) = omega (
-  arith,
-  numbered-prefix file (number + 1) n lines,
-  trimmed-length line,
-  length-append (trimmed line) (10 ∷ written_lines (take n
-      (map (λ source. source.line) (numbered_lines file (number + 1) (map line_with_newline lines))))),
-  length-append line (10 ∷ with_newlines (take n lines)),
-)
+numbered-prefix file number (suc n) (line ∷ lines) =
+    grind (arith, trimmed-length, length-append, numbered-prefix file (number + 1) n lines)
 
 pub next-within : {R : Type 0} (slot : Option (OpenSource R)) (lines : List (List ℕ)) (room : ℕ)
     → OnlyLastExceeds room lines → 0 < room

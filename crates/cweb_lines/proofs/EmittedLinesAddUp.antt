@@ -71,21 +71,12 @@ yields_both lines more old mid new all now later a b = record {
 pub after_both : (lines more : List Line) (stop : Stop) (old mid new : SoFar) (all rest : List Event) →
     EmitsLines lines old mid all rest → StopsAfterLines more stop mid new rest
     → StopsAfterLines (lines ++ more) stop old new all
-after_both lines more stop old mid new all rest yields stops = record {
-  line = stops.line;
-  later = stops.later;
-  yields = yields_both lines more old mid new all rest _ yields stops.yields;
-  why = stops.why;
-}
+after_both lines more stop old mid new all rest yields stops = grind (arith, yields_both)
 
 pub reads_both : (lines more : List Line) (old mid new : SoFar) (all rest : List Event) →
     EmitsLines lines old mid all rest → ReadFailsAfterLines more mid new rest
     → ReadFailsAfterLines (lines ++ more) old new all
-reads_both lines more old mid new all rest yields reads = record {
-  later = reads.later;
-  yields = yields_both lines more old mid new all rest _ yields reads.yields;
-  next = reads.next;
-}
+reads_both lines more old mid new all rest yields reads = grind (arith, yields_both)
 
 pub stopped_after : (stop : Stop) (old mid new : SoFar) (all rest : List Event) → EmitsLines [] old mid all rest →
     Stopped stop mid new rest → Stopped stop old new all

@@ -1,5 +1,5 @@
 -- The lines of an entry, and lines that begin no change.
-use Rattle.cweb_lines.proofs.Common.{rules, ◌≡◌, ◌≢◌, ◌&&◌, ℕ, Bool, true, false, List, [], ◌∷◌, ◌++◌, map, None, Some, Option, refl, sym, ◌∙◌, ap, append-nil, list_any, bytes_eq, Place, Line, SourceLine, World, is_include_line, WaitingEntry, Sought, after_x, change_code, old_at, old_lines, outside, old_after, OldSide, sought, sought_after, is_change_code, followed_by, only_lines, outcome_of_events, Event, RawLine, Thing, at_entry, emitted, new_at, new_lines, passed, plain, raws, taking, took, merge, merge_end, merge_next, Code, or_parts}
+use Rattle.cweb_lines.proofs.Common.{rules, ◌≡◌, ◌≢◌, ◌&&◌, ℕ, Bool, true, false, List, [], ◌∷◌, ◌++◌, map, None, Some, Option, refl, sym, ◌∙◌, ap, append-nil, list_any, bytes_eq, Place, Line, SourceLine, World, is_include_line, WaitingEntry, Sought, after_x, change_code, old_at, old_lines, old_after, OldSide, sought, is_change_code, followed_by, only_lines, outcome_of_events, Event, RawLine, Thing, at_entry, emitted, new_at, new_lines, passed, plain, raws, taking, took, merge, merge_end, merge_next, Code, or_parts, arith}
 use Rattle.cweb_lines.specs.declared.change.code.Code.TheVariants.{EndSide as end_side, NewSide as new_side, OldSide as old_side}
 use Rattle.cweb_lines.proofs.Merges.{state}
 use Rattle.cweb_lines.proofs.OutcomeOfEvents.{line_first, no_code}
@@ -30,10 +30,7 @@ pub finds : (comment : List SourceLine) (x first : SourceLine) (rest : List Sour
     → list_any is_change_code (bytes_in comment) ≡ false → change_code x.line.bytes ≡ Some old_side
     → first.line.bytes ≢ [] → change_code first.line.bytes ≡ None → sought (comment ++ (x ∷ first ∷ rest)) None
     ≡ record { events = map took (comment ++ (x ∷ first ∷ [])); entry = Some (entry_of x first); rest = rest }
-finds [] x first rest no_codes begins some none =
-    ap (λ code. sought_after (took x) (outside code x.line.place (λ begin. sought (first ∷ rest) begin))) begins
-    ∙ ap (λ (s : Sought). sought_after (took x) (sought_after (took first) s))
-    (first_old _ _ _ _ _ (λ next. sought _ next) some none)
+finds [] x first rest no_codes begins some none = grind (arith, first_old)
 finds (line ∷ comment) x first rest no_codes begins some none =
     let parts = or_parts (is_change_code line.line.bytes) (list_any is_change_code (bytes_in comment)) no_codes in
     simp (no_code (change_code line.line.bytes) parts.0, finds comment x first rest parts.1 begins some none)

@@ -26,12 +26,7 @@ names_some : (world : World) (r : RawLine) (s : MergeStateModel) (things : List 
     → is_include_line r.source.line.bytes ≡ true → include_name r.source.line.bytes ≢ [] → nat_lt r.depth OPEN_FILES ≡ b
     → open_include b world (include_name r.source.line.bytes) s r things ≡ next
     → plain (is_include_line r.source.line.bytes) world s r things ≡ next
-names_some world r s things next b include named room is = ap (λ b. plain b world s r things) include ∙ by _ named is
-  where
-    by : (name : List ℕ) → name ≢ [] → open_include b world name s r things ≡ next
-        → included name world s r things ≡ next
-    by [] some is = absurd (some refl)
-    by (c ∷ cs) some is = ap (λ t. open_include t world (c ∷ cs) s r things) room ∙ is
+names_some world r s things next b include named room is = grind arith
 
 opens_text : (world : World) (r : RawLine) (things : List Thing) (s : MergeStateModel) (name text : List ℕ)
     → Includes world r.source.line.bytes name text → r.depth < OPEN_FILES

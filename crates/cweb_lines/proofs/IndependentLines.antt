@@ -93,15 +93,8 @@ module _ (world : World) (later : List Thing) (change : List SourceLine) where
       let next' = becomes kind (state (raw r ∷ things ++ later) None change files) r (things ++ later) in
       onto (took r.source ∷ next.0) (run_steps n world next.1) ≡ Some events
       → took r.source ∷ next'.0 ++ merge world next'.1 ≡ events ++ coming_of (files + length (openings events)) later
-  prefix_raw n r things files events none each (yields line) is =
-      let x = onto_some (took r.source ∷ emitted line ∷ []) events
-      (run_steps n world (state things None change files)) is in
-      ap (λ (es : List Event). took r.source ∷ emitted line ∷ es) (each files things x.0 none x.1)
-      ∙ ap (λ (es : List Event). es ++ coming_of (files + length (openings es)) later) x.2
-  prefix_raw n r things files events none each (faults f) is =
-      let x = onto_some (took r.source ∷ fault f ∷ []) events (run_steps n world (state things None change files)) is in
-      ap (λ (es : List Event). took r.source ∷ fault f ∷ es) (each files things x.0 none x.1)
-      ∙ ap (λ (es : List Event). es ++ coming_of (files + length (openings es)) later) x.2
+  prefix_raw n r things files events none each (yields line) is = grind (arith, onto_some)
+  prefix_raw n r things files events none each (faults f) is = grind (arith, onto_some)
   prefix_raw n r things files events none each (opens found) is =
       let lines = raws (r.depth + 1) r.may_match (lines_in files found.1) in
       let opens_it = took r.source ∷ opening found.0 ∷ [] in

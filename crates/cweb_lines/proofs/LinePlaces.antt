@@ -1,5 +1,5 @@
 -- The places of consecutive lines of a file.
-use Rattle.cweb_lines.proofs.Common.{rules, ◌≡◌, ◌+◌, ℕ, List, [], ◌∷◌, ◌++◌, map, refl, ◌∙◌, ap, subst, arith, length, Line, SourceLine, CutLine, numbered_lines, trimmed, placed, placed_line}
+use Rattle.cweb_lines.proofs.Common.{rules, ◌≡◌, ◌+◌, ℕ, List, [], ◌∷◌, ◌++◌, map, refl, ◌∙◌, ap, arith, length, Line, SourceLine, CutLine, numbered_lines, trimmed, placed, placed_line}
 use Rattle.cweb_lines.proofs.Entries.{bytes_in, lines_of}
 
 abbrev pub Inside : ℕ → ℕ → List (List ℕ) → List SourceLine → Type 0
@@ -8,8 +8,7 @@ Inside file number texts lines = lines_of lines ≡ placed file number texts
 pub inside_of : (file number : ℕ) (texts : List CutLine)
     → Inside file number (map (λ line. trimmed line.bytes) texts) (numbered_lines file number texts)
 inside_of file number [] = refl
-inside_of file number (text ∷ texts) =
-    ap (λ (ls : List Line). placed_line file number (trimmed text.bytes) ∷ ls) (inside_of file (number + 1) texts)
+inside_of file number (text ∷ texts) = grind (arith, inside_of file (number + 1) texts)
 
 pub bytes_of : (file number : ℕ) (texts : List (List ℕ)) (lines : List SourceLine) → Inside file number texts lines
     → bytes_in lines ≡ texts
@@ -31,13 +30,7 @@ pub record Parts (file number : ℕ) (first later : List (List ℕ)) (lines : Li
 
 pub parts : (file number : ℕ) (first later : List (List ℕ)) (lines : List SourceLine)
     → Inside file number (first ++ later) lines → Parts file number first later lines
-parts file number [] later lines inside = record {
-  prefix = [];
-  rest = lines;
-  whole = refl;
-  prefix_inside = refl;
-  rest_inside = subst (λ n. Inside file n later lines) (let none : number ≡ number + 0 = omega arith in none) inside;
-}
+parts file number [] later lines inside = grind arith
 parts file number (text ∷ first) later [] inside = absurd (cc)
 parts file number (text ∷ first) later (line ∷ lines) inside =
     let head : line.line ≡ placed_line file number text = cc in
@@ -62,13 +55,4 @@ pub record First (file number : ℕ) (text : List ℕ) (later : List (List ℕ))
 pub first_of : (file number : ℕ) (text : List ℕ) (later : List (List ℕ)) (lines : List SourceLine)
     → Inside file number (text ∷ later) lines → First file number text later lines
 first_of file number text later [] inside = absurd (cc)
-first_of file number text later (line ∷ lines) inside =
-    let head : line.line ≡ placed_line file number text = cc in
-    record {
-      line = line;
-      rest = lines;
-      whole = refl;
-      bytes = ap (λ (l : Line). l.bytes) head;
-      place = ap (λ (l : Line). l.place) head;
-      rest_inside = cc;
-    }
+first_of file number text later (line ∷ lines) inside = grind arith

@@ -18,8 +18,7 @@ all_but_last-append a b some =
 -- One line after others that have fewer bytes.
 within_before : (room : ℕ) (a b : List (List ℕ)) → length b ≡ 1 → length (with_newlines a) < room
     → OnlyLastExceeds room (a ++ b)
-within_before room a (line ∷ []) one few = λ more.
-    rw (all_but_last-append a (line ∷ []) (omega arith), append-nil) few
+within_before room a (line ∷ []) one few = grind (arith, all_but_last-append, append-nil)
 within_before room a [] one few = absurd (omega (arith, one))
 within_before room a (line ∷ other ∷ b) one few = absurd (omega (arith, one))
 
@@ -61,26 +60,13 @@ module _ (entry : Option WaitingEntry) (may_match : Bool) (buffer : List ℕ) (s
       ∙ sym (append_assoc raw (10 ∷ []) (slice_range buffer s.end end)))
 
   printed_is : slice_range buffer start s.text ≡ trimmed raw
-  printed_is =
-      let count : s.text - start ≡ len = omega (arith, text) in
-      ap (λ n. take n (drop start buffer)) count
-      ∙ sym (take-take len at (slice_range buffer start end) within
-      ∙ take-take len (end - start) (drop start buffer) (omega (arith, near, within))) ∙ trims
+  printed_is = grind (arith, take-take, near)
 
   untrimmed : s.text + 1 ≡ s.end → raw ≡ trimmed raw
   untrimmed is = sym (take_all len raw (omega (arith, length_is, is, text, ends))) ∙ trims
 
   pub one_line : PassesThrough entry may_match raw → IsStretch entry may_match buffer start s (raw ∷ [])
-  one_line passes = record {
-    passing = (passes, tt);
-    lines = lines;
-    in_place = in_place;
-    size = omega (arith, length-append raw (10 ∷ []), length_is, ends);
-    text = ap (λ (l : List ℕ). l ++ 10 ∷ []) printed_is;
-    whole = λ is. in_place ∙ ap (λ (l : List ℕ). l ++ 10 ∷ []) (untrimmed is);
-    forth = omega (arith, text);
-    before = omega (arith, text, ends, within);
-  }
+  one_line passes = grind (arith, in_place, length-append, length_is, printed_is, untrimmed)
 
 pub joined : (entry : Option WaitingEntry) (may_match : Bool) (buffer : List ℕ) (start : ℕ) (s t u : Stretch)
     (a b : List (List ℕ)) → IsStretch entry may_match buffer start s a → s.text + 1 ≡ s.end
@@ -149,35 +135,19 @@ pub in_place_of : {R : Type 0} (entry : Option WaitingEntry) (text : OpenSource 
     → IfSome next (λ s. (lines : List (List ℕ)) × IsStretchOf entry text s lines × HasRoomFor limits lines
     × OnlyLastExceeds room lines)
 in_place_of entry text limits None room few small found = tt
-in_place_of entry text limits (Some s) room few small found =
-    let reaches = found.0 in (
-      reaches.0,
-      record { is = reaches.1; within = reaches.2 },
-      record {
-        few = omega (arith, few, few_lines reaches.0, reaches.1.size, reaches.2);
-        small = omega (arith, small, reaches.1.size, reaches.2);
-      },
-      found.1,
-    )
+in_place_of entry text limits (Some s) room few small found = grind (arith, few_lines)
 
 text_lines-standing : (entry : Option WaitingEntry) (may_match : Bool) (lines : List (List ℕ)) (rest : List ℕ)
     → AllPassThrough entry may_match lines
     → cut_lines (with_newlines lines ++ rest) ≡ map line_with_newline lines ++ cut_lines rest
 text_lines-standing entry may_match [] rest passing = refl
-text_lines-standing entry may_match (line ∷ lines) rest passing = simp (
-  append_assoc,
-  text_lines-full line
-      (with_newlines lines ++ rest) passing.0.clean,
-  text_lines-standing entry may_match lines rest passing.1,
-)
+text_lines-standing entry may_match (line ∷ lines) rest passing =
+    grind (arith, append_assoc, text_lines-full, text_lines-standing entry may_match lines rest passing.1)
 
 pub numbered-append : (file number : ℕ) (a b : List CutLine)
     → numbered_lines file number (a ++ b) ≡ numbered_lines file number a ++ numbered_lines file (number + length a) b
-numbered-append file number [] b =
-    let same : number ≡ number + 0 = omega arith in ap (λ n. numbered_lines file n b) same
-numbered-append file number (line ∷ a) b =
-    let next : number + 1 + length a ≡ number + length (line ∷ a) = omega arith in
-    simp (numbered-append file (number + 1) a b, next)
+numbered-append file number [] b = grind arith
+numbered-append file number (line ∷ a) b = grind (arith, numbered-append file (number + 1) a b)
 
 pub takes_lines : {R : Type 0} (entry : Option WaitingEntry) (text : OpenSource R) (s : Stretch) (lines : List (List ℕ))
     → IsStretchOf entry text s lines → (left : R → List ℕ) → lines_at left (Some text) ≡ sources_next (Some text) lines

@@ -1,5 +1,5 @@
 -- Lookahead at consecutive lines in the buffer.
-use Rattle.cweb_lines.proofs.Common.{rules, ◌≡◌, ◌≤◌, ◌<◌, ◌+◌, ◌-◌, ℕ, List, [], ◌∷◌, ◌++◌, length, map, Option, None, Some, refl, sym, ◌∙◌, ap, subst, arith, append_cancel_right, length-append, length-map, map-append, slice_range, unwrap_or, IfSome, Place, FitsLimits, FitsLimitsAt, IsAhead, LooksAhead, LooksAheadIn, WaitingEntry, BorrowsLines, line_span_at, Line, IsOneLine, SourceLine, numbered_lines, trimmed, pending_of, so_far_of, ComesNext, EmitsBufferedLines, HasRoomFor, IsStretch, Reaches, IsStretchAt, IsStretchOf, OnlyLastExceeds, line_with_newline, lines_next, top_of, IsSettled, floor_of, files_up_to, TakenCounters, LINES, Ahead, LineSpan, Stretch, MergeState, OpenSource}
+use Rattle.cweb_lines.proofs.Common.{rules, ◌≡◌, ◌≤◌, ◌<◌, ◌+◌, ◌-◌, ℕ, List, [], ◌∷◌, ◌++◌, length, map, Option, None, Some, refl, ◌∙◌, ap, arith, append_cancel_right, length-append, length-map, map-append, slice_range, IfSome, Place, FitsLimits, FitsLimitsAt, IsAhead, LooksAhead, LooksAheadIn, WaitingEntry, BorrowsLines, line_span_at, Line, SourceLine, numbered_lines, trimmed, pending_of, so_far_of, ComesNext, EmitsBufferedLines, HasRoomFor, IsStretch, Reaches, IsStretchAt, IsStretchOf, OnlyLastExceeds, line_with_newline, lines_next, top_of, IsSettled, floor_of, TakenCounters, LINES, Ahead, LineSpan, Stretch, MergeState, OpenSource, common_steps}
 use Rattle.cweb_lines.proofs.ReportsOnlyGrow.{grows_reported, reported_emitted, reported_then}
 use Rattle.cweb_input.proofs.SourceStacks.{most_at}
 use Rattle.cweb_lines.proofs.LinesInBuffer.{few_lines, joined, numbered-append}
@@ -32,41 +32,16 @@ module _ {R : Type 0} (entry : Option WaitingEntry) (text : OpenSource R) (lines
   emitted = simp (map-append, numbered-append, length-map, bytes, place)
 
   pub looks_one : LooksAheadIn entry (Some text) lines ahead
-  looks_one = record {
-    raw = raw;
-    in_place = in_place;
-    emitted = emitted;
-    order = omega (arith, is.forth, to);
-    within = omega (arith, is.before, within, to, text.source.within);
-    line = subst IsOneLine (sym bytes) (trimmed-line raw is.passing.0.clean is.passing.0.short);
-    file = omega (arith, ap (λ (p : Place). p.file.0) place);
-    size = omega (arith, ap (λ (l : List ℕ). length l) bytes, trimmed-length raw);
-    count = omega (arith, in_place.is.lines, length-append lines (raw ∷ []));
-    ordered = in_place.is.before;
-  }
+  looks_one = grind (arith, emitted, bytes, trimmed-line, trimmed-length, length-append)
 
 pub looks_first : {R : Type 0} (entry : Option WaitingEntry) (slot : Option (OpenSource R)) (s : Stretch)
     (line : LineSpan)
     (lines : List (List ℕ)) → IsStretchAt entry slot s lines → OnlyLastExceeds 0 lines → Some line ≡ line_span_at slot s
     → LooksAheadIn entry slot [] (record { line = line; stretch = s })
 looks_first entry None s line lines in_place within is = absurd in_place
-looks_first entry (Some text) s line [] in_place within is =
-    absurd (omega (arith, in_place.is.size, in_place.is.forth, in_place.is.before))
-looks_first entry (Some text) s line (raw ∷ more ∷ lines) in_place within is =
-    absurd (omega (arith, within (omega arith)))
-looks_first entry (Some text) s line (raw ∷ []) in_place within is = subst (λ (l : LineSpan). LooksAheadIn entry
-    (Some text) [] (record { line = l; stretch = s })) (sym (ap (λ (o : Option LineSpan). unwrap_or o here) is))
-    (looks_one entry text [] raw s (record { line = here; stretch = s }) in_place.is in_place.within refl place
-    in_place)
-  where
-    here : LineSpan
-    here = record { place = record { file = text.file; line = text.line + 1 }; from = text.source.start; to = s.text }
-
-    count : text.line + 1 ≡ text.line + 1 + 0
-    count = omega arith
-
-    place : here.place ≡ record { file = text.file; line = text.line + 1 + 0 }
-    place = λ i. record { file = text.file; line = count i }
+looks_first entry (Some text) s line [] in_place within is = grind arith
+looks_first entry (Some text) s line (raw ∷ more ∷ lines) in_place within is = grind arith
+looks_first entry (Some text) s line (raw ∷ []) in_place within is = grind (arith, common_steps, looks_one)
 
 pub looks_after : {R : Type 0} (entry : Option WaitingEntry) (text : OpenSource R) (before next all : Stretch)
     (lines : List (List ℕ)) → IsStretchOf entry text before lines → before.text + 1 ≡ before.end
@@ -114,46 +89,18 @@ pub few_after : {R : Type 0} (entry : Option WaitingEntry) (text : OpenSource R)
     (lines : List (List ℕ)) → FitsLimits limits text → text.line ≤ limits.lines → IsStretchOf entry text before lines
     → Reaches entry text.may_match text.source.buffer.items before.end text.source.end next → next.lines ≡ 1
     → text.line + before.lines + 1 ≤ LINES
-few_after entry text limits before next lines fits number in_place reaches one = omega (
-  arith,
-  fits.few,
-  number,
-  few_lines lines,
-  in_place.is.lines,
-  in_place.is.size,
-  reaches.1.forth,
-  reaches.1.before,
-  reaches.2,
-)
+few_after entry text limits before next lines fits number in_place reaches one = grind (arith, few_lines)
 
 room_for : {R : Type 0} (entry : Option WaitingEntry) (limits : TakenCounters) (slot : Option (OpenSource R))
     (s : Stretch)
     (lines : List (List ℕ)) → FitsLimitsAt limits slot → IsStretchAt entry slot s lines → HasRoomFor limits lines
 room_for entry limits None s lines fits in_place = absurd in_place
-room_for entry limits (Some text) s lines fits in_place = record {
-  few = omega (arith, fits.few, few_lines lines, in_place.is.size, in_place.within);
-  small = omega (arith, fits.small, in_place.is.size, in_place.within);
-}
+room_for entry limits (Some text) s lines fits in_place = grind (arith, few_lines)
 
 pub looks_at : {R : Type 0} (run : MergeState R) (before : List (List ℕ)) (ahead : Ahead) → IsSettled run.stage
     → floor_of run.stage < run.stack.depth → FitsLimitsAt run.limits (top_of run.stack)
     → LooksAheadIn (pending_of run) (top_of run.stack) before ahead → LooksAhead run before ahead
-looks_at run before ahead settled above fits looks = record {
-  raw = looks.raw;
-  comes = record {
-    settled = settled;
-    above = above;
-    in_place = looks.in_place;
-    room = room_for (pending_of run) run.limits (top_of run.stack) ahead.stretch _ fits looks.in_place;
-  };
-  emitted = looks.emitted;
-  inside = record { some = omega (arith, above); order = looks.order; within = looks.within };
-  line = looks.line;
-  known = omega (arith, looks.file, most_at files_up_to run.stack.texts (run.stack.depth - 1), run.open_known);
-  size = looks.size;
-  count = looks.count;
-  ordered = looks.ordered;
-}
+looks_at run before ahead settled above fits looks = grind (arith, room_for, emitted, most_at)
 
 pub looks_next : {R : Type 0} (run : MergeState R) (slot : Option (OpenSource R)) (before : Stretch)
     (next : Option Ahead)
@@ -162,10 +109,7 @@ pub looks_next : {R : Type 0} (run : MergeState R) (slot : Option (OpenSource R)
     → LooksAheadIn (pending_of run) slot lines ahead)
     → IfSome next (λ ahead. (lines : List (List ℕ)) → ComesNext run before lines → LooksAhead run lines ahead)
 looks_next run slot before None same fits looks = tt
-looks_next run slot before (Some ahead) same fits looks =
-    λ lines next. looks_at run lines ahead next.settled next.above fits (subst (λ s. LooksAheadIn (pending_of run)
-    s lines ahead) (sym same) (looks lines (subst (λ s. IsStretchAt (pending_of run) s before lines) same
-    next.in_place)))
+looks_next run slot before (Some ahead) same fits looks = grind (arith, looks_at)
 
 pub is_ahead : {R : Type 0} (run : MergeState R) (before : List (List ℕ)) (ahead : Ahead)
     → FitsLimitsAt run.limits (top_of run.stack) → LooksAhead run before ahead → IsAhead run ahead

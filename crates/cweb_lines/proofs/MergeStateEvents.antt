@@ -1,5 +1,5 @@
 -- The events to come of a merger, by its stack, stage, files and faults.
-use Rattle.cweb_lines.proofs.Common.{rules, OnlyOpens, OnlyReports, Some, Bool, true, false, if◌then◌else◌, ◌≡◌, ◌≤◌, ◌<◌, ◌+◌, ◌-◌, ℕ, zero, suc, get_or, List, [], ◌∷◌, ◌++◌, Option, None, refl, sym, ◌∙◌, ap, arith, length, length-append, le-max_left, le-max_right, max-le, Place, WaitingEntry, at_place, World, optional_string_bytes, SourceLine, lines_in, Event, Thing, fault, raws, EmitsLines, NothingLeft, events_to_come, so_far_of, things_of, opened_file_names, IsSettled, change_in, files_begun, stage_for, floor_of, pending_in, things_below, things_in, TakenCountersModel, OpensSource, StaysBelow, StopsAbove, TakesAbove, TakesFirst, TopStops, lines_at, lines_left, things_above, merge, merge_end, merge_next, SourceFault, NoMatch, MergeState, Stack, Change, Stage, Seeking, Waiting, Changing, Stop, LineAt, OpenSource, counters_of, over-none}
+use Rattle.cweb_lines.proofs.Common.{rules, OnlyOpens, OnlyReports, Some, Bool, true, false, if◌then◌else◌, ◌≡◌, ◌≤◌, ◌<◌, ◌+◌, ◌-◌, ℕ, zero, suc, get_or, List, [], ◌∷◌, ◌++◌, Option, None, refl, ◌∙◌, ap, arith, length, length-append, le-max_left, le-max_right, max-le, Place, WaitingEntry, at_place, World, optional_string_bytes, SourceLine, lines_in, Event, Thing, fault, raws, EmitsLines, NothingLeft, events_to_come, so_far_of, things_of, opened_file_names, IsSettled, change_in, files_begun, stage_for, floor_of, pending_in, things_below, things_in, TakenCountersModel, OpensSource, StaysBelow, StopsAbove, TakesAbove, TakesFirst, TopStops, lines_at, lines_left, things_above, merge, merge_end, merge_next, SourceFault, NoMatch, MergeState, Stack, Change, Stage, Seeking, Waiting, Changing, Stop, LineAt, OpenSource, over-none, common_steps}
 use Rattle.cweb_lines.specs.inner.Stages.{files_of_faults}
 use Rattle.cweb_lines.proofs.Merges.{state, yields_fault}
 
@@ -45,8 +45,7 @@ pub takes_in : {R : Type 0} (left : R → List ℕ) (stage : Stage) (lines : Lis
     StaysBelow (floor_of stage) old.texts new.texts
     → TakesFirst (things_in left stage lines old) at bytes (things_in left stage lines new) before after
 takes_in left Seeking lines old new at bytes before after settled takes stays = absurd (settled refl)
-takes_in left (Changing change) lines old new at bytes before after settled takes stays =
-    rw (← (below_same left change lines old new stays)) (takes (things_below left change lines old))
+takes_in left (Changing change) lines old new at bytes before after settled takes stays = grind (arith, below_same)
 takes_in left _ lines old new at bytes before after settled takes stays = takes []
 
 -- Things come first, above the sources that stay open.
@@ -55,8 +54,7 @@ pub passes_in : {R : Type 0} (left : R → List ℕ) (stage : Stage) (lines : Li
     old rest ≡ first ++ things_above left (floor_of stage) new rest) → StaysBelow (floor_of stage) old.texts new.texts
     → things_in left stage lines old ≡ first ++ things_in left stage lines new
 passes_in left Seeking lines old new first settled takes stays = absurd (settled refl)
-passes_in left (Changing change) lines old new first settled takes stays =
-    rw (← (below_same left change lines old new stays)) (takes (things_below left change lines old))
+passes_in left (Changing change) lines old new first settled takes stays = grind (arith, below_same)
 passes_in left _ lines old new first settled takes stays = takes []
 
 pub stops_in : {R : Type 0} (left : R → List ℕ) (stage : Stage) (lines : List SourceLine) (stack : Stack R)
@@ -72,22 +70,16 @@ pub opened_in : {R : Type 0} (left : R → List ℕ) (stage : Stage) (lines : Li
     → StaysBelow old.depth old.texts new.texts → things_in left stage lines new ≡ raws (at.depth + 1) at.may_match
     (lines_in file (left reader)) ++ things_in left stage lines old
 opened_in left Seeking lines old new reader file at settled floor opens stays = absurd (settled refl)
-opened_in left (Changing change) lines old new reader file at settled floor opens stays =
-    rw (below_same left change lines old new (λ l n le. stays l n (omega (arith, le, floor))))
-    (opens left change.below floor (things_below left change lines new))
+opened_in left (Changing change) lines old new reader file at settled floor opens stays = grind (arith, below_same)
 opened_in left _ lines old new reader file at settled floor opens stays = opens left 0 (omega arith) []
 
 pub nothing_above : {R : Type 0} (world : World) (l : R → List ℕ) (stack : Stack R) (files : ℕ) → stack.depth ≡ 0 →
     merge world (state (things_above l 0 stack []) None [] files) ≡ []
-nothing_above world l stack files none = ap (λ (things : List Thing). merge world (state things None [] files))
-    (over-none l 0 (stack.depth - 0) stack.texts [] (omega (arith, none)))
-    ∙ merge_end world (state [] None [] files) refl
+nothing_above world l stack files none = grind (arith, over-none, merge_end)
 
 pub coming_none : {R : Type 0} (t : List ℕ → Option (List ℕ)) (l : R → List ℕ) (run : MergeState R) → NothingLeft run →
     events_to_come t l run ≡ []
-coming_none t l run none = (λ i. coming_of t (optional_string_bytes run.inputs) l (none.1 i) run.change run.first.items
-    (length (opened_file_names run.names)) (things_in l (none.1 i) (lines_at l run.change) run.stack))
-    ∙ nothing_above (record { texts = t; inputs = optional_string_bytes run.inputs }) l run.stack _ none.0
+coming_none t l run none = grind (arith, nothing_above)
 
 pub coming_opened : {R : Type 0} (t : List ℕ → Option (List ℕ)) (l : R → List ℕ) (run run' : MergeState R) (reader : R)
     (name : List ℕ) (at : LineAt) → OnlyOpens run run'
@@ -98,25 +90,12 @@ pub coming_opened : {R : Type 0} (t : List ℕ → Option (List ℕ)) (l : R →
     (length (opened_file_names run.names) + 1)
     (raws (at.depth + 1) at.may_match (lines_in (length (opened_file_names run.names)) (l reader)) ++ things_of l run)
     ≡ events_to_come t l run'
-coming_opened t l run run' reader name at only names settled opens stays =
-    let count : length (opened_file_names run'.names) ≡ length (opened_file_names run.names) + 1 =
-    simp (names, length-append) in
-    let things = opened_in l run.stage (lines_at l run.change) run.stack run'.stack reader
-    (length (opened_file_names run.names)) at settled run.floor opens stays in
-    sym ((λ i. coming_of t (optional_string_bytes (only.inputs i)) l (only.stage i) (only.change i)
-    ((only.first i).items) (count i) (things_in l (only.stage i) (lines_at l (only.change i)) run'.stack))
-    ∙ ap (λ (ts : List Thing). coming_of t (optional_string_bytes run.inputs) l run.stage run.change run.first.items
-    (length (opened_file_names run.names) + 1) ts) things)
+coming_opened t l run run' reader name at only names settled opens stays = grind (arith, length-append, opened_in)
 
 pub yields_reported : {R : Type 0} (t : List ℕ → Option (List ℕ)) (l : R → List ℕ) (run run' : MergeState R)
     (f : SourceFault) → OnlyReports run run' → run'.faults.items ≡ run.faults.items ++ f ∷ []
     → EmitsLines [] (so_far_of run) (so_far_of run') (fault f ∷ events_to_come t l run) (events_to_come t l run')
-yields_reported t l run run' f only reported = yields_fault (so_far_of run) (so_far_of run') _ _
-    (ap counters_of only.limits) f (sym (λ i. fault f
-    ∷ coming_of t (optional_string_bytes (only.inputs i)) l (only.stage i)
-    (only.change i) ((only.first i).items) (length (opened_file_names (only.names i)))
-    (things_in l (only.stage i) (lines_at l (only.change i)) (only.stack i))))
-    reported (ap opened_file_names only.names)
+yields_reported t l run run' f only reported = grind (arith, common_steps, yields_fault)
 
 pub no_match : {R : Type 0} (t : List ℕ → Option (List ℕ)) (l : R → List ℕ) (run : MergeState R) (begin : Place) →
     run.stage ≡ Waiting begin → run.stack.depth ≡ 0 → events_to_come t l run ≡ fault (at_place NoMatch begin) ∷ []

@@ -1,5 +1,5 @@
 -- The events of a line that was taken.
-use Rattle.cweb_lines.proofs.Common.{rules, Option, if◌then◌else◌, ◌&&◌, ◌≡◌, ◌≤◌, ◌<◌, ◌+◌, ◌==◌, ℕ, Bool, true, false, List, [], ◌∷◌, ◌++◌, Some, None, refl, sym, ◌∙◌, ap, arith, length, append-nil, nat_lt, nat_tests, Place, bytes_eq, WaitingEntry, at_place, World, is_include_line, include_name, found_at, Line, SourceLine, lines_in, MergeStateModel, RawLine, Thing, raw, Event, took, emitted, fault, opening, Next, at_entry, at_raw, included, open_include, obeyed, plain, taking, raws, begun_by, OPEN_FILES, LineAt, SoFar, EmitsLines, taken_lines, reported_faults, openings, emitted_lines, merge, merge_next, SourceFault, NoName, TooDeep, NotThere}
+use Rattle.cweb_lines.proofs.Common.{rules, Option, if◌then◌else◌, ◌≡◌, ◌≤◌, ◌<◌, ◌+◌, ◌==◌, ℕ, Bool, true, false, List, [], ◌∷◌, ◌++◌, Some, None, refl, sym, ◌∙◌, ap, arith, length, append-nil, nat_lt, nat_tests, Place, WaitingEntry, at_place, World, is_include_line, include_name, found_at, Line, SourceLine, lines_in, MergeStateModel, RawLine, Thing, raw, Event, took, emitted, fault, opening, Next, at_raw, included, open_include, obeyed, plain, taking, raws, begun_by, OPEN_FILES, LineAt, SoFar, EmitsLines, taken_lines, reported_faults, openings, emitted_lines, merge, merge_next, SourceFault, NoName, TooDeep, NotThere}
 
 abbrev pub state : List Thing → Option WaitingEntry → List SourceLine → ℕ → MergeStateModel
 state things pending change files = record { things = things; pending = pending; change = change; files = files }
@@ -29,8 +29,7 @@ module _ (world : World) (source : SourceLine) (bytes : List ℕ) (at : LineAt)
   passes : (p : Option WaitingEntry) → begun_by p at.may_match bytes ≡ None →
       at_raw p world before r things ≡ plain (is_include_line source.line.bytes) world before r things
   passes None unbegun = refl
-  passes (Some entry) unbegun = ap (λ b. at_entry b entry world before r things) (as_read (λ b. at.may_match
-      && bytes_eq b entry.first) false (not_begun (at.may_match && bytes_eq bytes entry.first) entry.begin unbegun))
+  passes (Some entry) unbegun = grind (arith, as_read, not_begun)
 
   merge_plain : (next : Next) → plain (is_include_line source.line.bytes) world before r things ≡ next →
       merge world before ≡ took source ∷ next.0 ++ merge world next.1
@@ -52,9 +51,7 @@ module _ (world : World) (source : SourceLine) (bytes : List ℕ) (at : LineAt)
       open_include (nat_lt at.depth OPEN_FILES) world name before r things ≡ next
       → merge world before ≡ took source ∷ next.0 ++ merge world next.1
   merge_named [] next test named some opens = absurd (omega arith)
-  merge_named (b ∷ bs) next test named some opens =
-      merge_plain next (ap (λ b. plain b world before r things) (as_read is_include_line true test)
-      ∙ ap (λ n. included n world before r things) (as_read include_name (b ∷ bs) named) ∙ opens)
+  merge_named (b ∷ bs) next test named some opens = grind (arith, merge_plain, as_read)
 
   pub merge_too_deep : is_include_line bytes ≡ true → 0 < length (include_name bytes) → OPEN_FILES ≤ at.depth →
       merge world before ≡ took source ∷ fault (at_place TooDeep at.place) ∷ merge world after
@@ -99,16 +96,7 @@ module _ (old new : SoFar) (all later : List Event) (count : new.count ≡ old.c
   yields_untaken : (events : List Event) → taken_lines events ≡ [] → all ≡ events ++ later → new.faults ≡ old.faults
       ++ reported_faults events → new.names ≡ old.names ++ openings events
       → EmitsLines (emitted_lines events) old new all later
-  yields_untaken events none whole faults names = record {
-    events = events;
-    whole = whole;
-    emitted = refl;
-    faults = faults;
-    names = names;
-    lines_are = simp (count, none) (omega arith);
-    bytes_are = simp (count, none) (omega arith);
-    short = rw none tt;
-  }
+  yields_untaken events none whole faults names = grind arith
 
   pub yields_fault : (f : SourceFault) → all ≡ fault f ∷ later → new.faults ≡ old.faults ++ f ∷ [] →
       new.names ≡ old.names → EmitsLines [] old new all later

@@ -1,5 +1,5 @@
 -- The new side of a change, line by line.
-use Rattle.cweb_lines.proofs.Common.{rules, subst, OnlyTakes, OnlyReports, lines_at, ◌≡◌, ℕ, false, List, [], ◌∷◌, ◌++◌, Some, None, Option, refl, sym, ◌∙◌, ap, length, sameb, Place, at_place, change_code, world_in, World, Line, SourceLine, Event, NewSide, Thing, fault, new_at, new_lines, passed, seek, reported, took, EmitsLines, SoFar, Stopped, change_lines, events_to_come, events_after_line, so_far_of, counters_of, opened_file_names, FirstStops, StopsFor, CountsLine, things_above, things_over, merge, merge_next, the_type, Code, EndedBeforeZ, WantsZ, MergeState, Change, Changing, Stack, Stop}
+use Rattle.cweb_lines.proofs.Common.{rules, subst, OnlyTakes, OnlyReports, lines_at, ◌≡◌, ℕ, false, List, [], ◌∷◌, ◌++◌, Some, None, Option, refl, sym, ◌∙◌, ap, length, sameb, Place, at_place, change_code, world_in, World, Line, SourceLine, Event, NewSide, Thing, fault, new_at, new_lines, passed, seek, reported, took, EmitsLines, SoFar, Stopped, change_lines, events_to_come, events_after_line, so_far_of, counters_of, opened_file_names, FirstStops, StopsFor, CountsLine, things_above, things_over, merge, merge_next, the_type, Code, EndedBeforeZ, WantsZ, MergeState, Change, Changing, Stack, Stop, arith, common_steps}
 use Rattle.cweb_lines.specs.declared.change.code.Code.TheVariants.{OldSide as old_side, NewSide as new_side, EndSide as end_side}
 use Rattle.cweb_lines.proofs.AddedEvents.{takes_one}
 use Rattle.cweb_lines.proofs.EmittedLinesAddUp.{yields_both}
@@ -119,11 +119,8 @@ module _ {R : Type 0} (t : List ℕ → Option (List ℕ)) (l : R → List ℕ) 
       → EmitsLines [] (so_far_of run) (so_far_of new) (events_to_come t l run)
       (merge (world_in t new.inputs)
       (state (things_above l 0 new.stack []) None [] (length (opened_file_names new.names))))
-  new_ended new tells none count is = yields_fault (so_far_of run) (so_far_of new) _ _ count
-      (at_place EndedBeforeZ change.begin) (coming_is t l run change stage low ∙ new_none world change under files
-      (change_lines l run) none ∙ ap (λ (es : List Event). fault (at_place EndedBeforeZ change.begin) ∷ es)
-      (later_is new (tells.inputs ∙ only.inputs) (tells.stack ∙ stack) (tells.names ∙ only.names) (λ ts. ts) []))
-      (simp (is, took_faults only)) (ap opened_file_names (tells.names ∙ only.names))
+  new_ended new tells none count is =
+      grind (arith, common_steps, yields_fault, coming_is, new_none, later_is, took_faults)
 
   module _ (bytes : List ℕ) (place : Place)
       (taken : CountsLine bytes place (counters_of run.limits) (counters_of mid.limits)) where

@@ -1,5 +1,5 @@
 -- Calls that may read, one after another. Each but the last has read without a fault, so the shelf is as before.
-use Rattle.cweb_lines.proofs.Common.{rules, ◌≡◌, ◌∙◌, ◌++◌, ℕ, List, [], Some, refl, sym, ap, so_far_of, opened_file_names, Memory, OnlyReports, SourceFault, MergeState, AppendsPassedLines, AreReadersKnown, Line, LineAt, Stop, Result, Ok, Err, IfErr}
+use Rattle.cweb_lines.proofs.Common.{rules, ◌≡◌, ◌∙◌, ◌++◌, ℕ, List, [], Some, refl, sym, ap, so_far_of, opened_file_names, Memory, OnlyReports, SourceFault, MergeState, AppendsPassedLines, AreReadersKnown, Line, LineAt, Stop, Result, Ok, Err, IfErr, arith}
 use Rattle.cweb_files.specs.Shelves.{Observed, ShelfContents, ShelfModel}
 use Rattle.cweb_files.specs.declared.place.FileId.{FileId}
 use Rattle.cweb_input.specs.surface.OpenSources.{BlamesFile, ReadsShelf, shelf_after}
@@ -32,11 +32,7 @@ StayKnown shelf run run' =
 
 module _ {R : Type 0} where
   pub quiet_same : (s : ShelfModel R) (run : MergeState R) → Quiet s s run run
-  quiet_same s run = record {
-    shelf = (λ file. [], refl);
-    readers = λ seen it known. (known, refl);
-    still = reported_same _ _ refl refl;
-  }
+  quiet_same s run = search (rules, reported_same)
 
   pub reads_of : {A : Type 0} (result : Result A Stop) {old new : ShelfModel R} {run run' : MergeState R}
       → ReadsShelf old new result → KeepsReaders old new run run' result
@@ -57,8 +53,7 @@ module _ {R : Type 0} where
   pub reads_obeyed : {A : Type 0} {result : Result A Stop} {old new : ShelfModel R} {run run' : MergeState R}
       {bytes : List ℕ} {at : LineAt} {lines : A → List Line} → Obeys old new run run' bytes at lines result
       → Reads old new run run' (outcome result)
-  reads_obeyed {result = result} obeys =
-      reads_none obeys.same obeys.readers obeys.still (outcome_memory result obeys.only.memory)
+  reads_obeyed {result = result} obeys = search (rules, reads_none, outcome_memory)
 
   pub reads_passed : {room : ℕ} {s : ShelfModel R} {run run' : MergeState R} {buffer more : List ℕ}
       → AppendsPassedLines room run run' buffer more → Quiet s s run run'
@@ -67,8 +62,7 @@ module _ {R : Type 0} where
   pub reads_halted : {s : ShelfModel R} {run run' : MergeState R} {stop : Stop}
       → ((opened_as : R → List ℕ) → AreReadersKnown opened_as run → AreReadersKnown opened_as run')
       → so_far_of run' ≡ so_far_of run → stop ≡ Memory → Reads s s run run' (Err stop)
-  reads_halted readers same memory =
-      reads_none refl (λ seen it known. readers _ known) (reported_halted same) memory
+  reads_halted readers same memory = search (rules, reads_none, reported_halted)
 
   -- A call that doesn't have the shelf reports faults.
   pub reads_reported : {result : Result (Unit {0}) Stop} {s : ShelfModel R} {run run' : MergeState R}
@@ -81,19 +75,13 @@ module _ {R : Type 0} where
   pub reads_set : {result : Result (Unit {0}) Stop} {old new : ShelfModel R} {x y : MergeState R} (z : MergeState R)
       → z.stack ≡ y.stack → z.change ≡ y.change → so_far_of z ≡ so_far_of y
       → Reads old new x y result → Reads old new x z result
-  reads_set {y = y} z stack change same reads = record {
-    shelf = reads.shelf;
-    readers = search rules;
-    still = rw same reads.still;
-  }
+  reads_set {y = y} z stack change same reads = grind arith
 
   pub stays_known : {A : Type 0} (result : Result A Stop) {old new : ShelfModel R} {S : Type 0}
       {merger merger' : Merger S R} → Reads old new merger.run merger'.run (outcome result)
       → Observed old (λ seen. KnowsReaders seen merger → StaysKnown seen old new merger merger' result)
-  stays_known (Ok x) reads = λ seen it known.
-      let stay = reads.readers seen it known in record { readers = stay.0; blamed = λ before. stay.1 }
-  stays_known (Err stop) reads = λ seen it known.
-      let stay = reads.readers seen it known in record { readers = stay.0; blamed = λ before. stay.1 }
+  stays_known (Ok x) reads = grind arith
+  stays_known (Err stop) reads = grind arith
 
   module _ {a b : ShelfModel R} {x y : MergeState R} (first : Quiet a b x y) where
     pub still_seen : {seen : ShelfContents R} → a.contents ≡ Some seen → b.contents ≡ Some seen

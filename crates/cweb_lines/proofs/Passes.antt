@@ -1,6 +1,6 @@
 -- Lines that pass through, taken from the stack of a merger.
-use Rattle.cweb_lines.proofs.Common.{◌≡◌, ◌<◌, ◌+◌, ◌-◌, ℕ, List, [], ◌∷◌, ◌++◌, length, Option, sym, ◌∙◌, ap, subst, arith, length-append, append-nil, append_assoc, counters_of, optional_string_bytes, world_in, Line, SourceLine, Thing, EmitsLines, so_far_of, events_to_come, change_lines, pending_of, opened_file_names, ComesNext, EmitsBufferedLines, AppendsPassedLines, PassesTop, lines_next, sources_next, stretch_bytes, top_of, all_but_last, OnlyLastExceeds, change_in, floor_of, things_in, StaysBelow, lines_at, AreShort, size_of_lines, written_lines, TakenCounters, Stretch, MergeState, Stack}
-use Rattle.cweb_lines.proofs.EmittedLines.{events_of, events-emitted, events-unreported, events-unopened, events-taken, merge_next_lines, next-length, next-size, next-short, next-text, next-within}
+use Rattle.cweb_lines.proofs.Common.{◌≡◌, ◌<◌, ◌+◌, ◌-◌, ℕ, List, [], ◌∷◌, ◌++◌, length, Option, ◌∙◌, ap, arith, length-append, append-nil, append_assoc, counters_of, optional_string_bytes, Line, SourceLine, EmitsLines, so_far_of, events_to_come, pending_of, opened_file_names, ComesNext, EmitsBufferedLines, AppendsPassedLines, PassesTop, lines_next, sources_next, stretch_bytes, top_of, all_but_last, OnlyLastExceeds, things_in, StaysBelow, lines_at, written_lines, TakenCounters, Stretch, MergeState, Stack}
+use Rattle.cweb_lines.proofs.EmittedLines.{events-emitted, events-unreported, events-unopened, events-taken, merge_next_lines, next-length, next-size, next-short, next-text, next-within}
 use Rattle.cweb_lines.proofs.EmittedLinesAddUp.{yields_both}
 use Rattle.cweb_lines.proofs.MergeStateEvents.{coming_of, passes_in}
 use Rattle.cweb_lines.proofs.WrittenLinesAddUp.{text_of-append, written-all_but_last}
@@ -23,34 +23,20 @@ module _ {R : Type 0} (run : MergeState R) (stack : Stack R) (limits : TakenCoun
       (coming_of t (optional_string_bytes run.inputs) l run.stage run.change run.first.items
       (length (opened_file_names run.names))
       (things_in l run.stage (lines_at l run.change) stack))
-  yields_next t l = record {
-    events = events_of sources;
-    whole = ap (λ (ts : List Thing).
-        coming_of t (optional_string_bytes run.inputs) l run.stage run.change run.first.items
-        (length (opened_file_names run.names)) ts)
-        (passes_in l run.stage (change_lines l run) run.stack stack _ next.settled (passes.takes l
-        (floor_of run.stage) next.above) (λ left n le rest. below left n (omega (arith, le, next.above)) rest))
-        ∙ merge_next_lines (world_in t run.inputs) (pending_of run) (top_of run.stack) s lines
-        (things_in l run.stage (lines_at l run.change) stack) (change_in run.stage (lines_at l run.change))
-        (length (opened_file_names run.names)) next.in_place;
-    emitted = events-emitted sources;
-    faults = simp (events-unreported, append-nil);
-    names = simp (events-unopened, append-nil);
-    lines_are = omega (
-      arith,
-      passes.few,
-      ap (λ (ls : List SourceLine). length ls) (events-taken sources),
-      next-length (pending_of run) (top_of run.stack) s lines next.in_place,
-    );
-    bytes_are = omega (
-      arith,
-      passes.bytes,
-      ap size_of_lines (events-taken sources),
-      next-size (pending_of run) (top_of run.stack) s lines next.in_place,
-    );
-    short = subst AreShort (sym (events-taken sources))
-        (next-short (pending_of run) (top_of run.stack) s lines next.in_place);
-  }
+  yields_next t l =
+      grind (
+        arith,
+        passes_in,
+        merge_next_lines,
+        events-emitted,
+        events-unreported,
+        append-nil,
+        events-unopened,
+        events-taken,
+        next-length,
+        next-size,
+        next-short,
+      )
 
 pub passes_next : {R : Type 0} (room : ℕ) (old new : MergeState R) (s : Stretch) (lines : List (List ℕ))
     (buffer more : List ℕ)
@@ -74,8 +60,7 @@ within_then : (room n m : ℕ) (a b : List Line) → m ≡ n + length (written_l
     → (0 < length b → m + length (written_lines (all_but_last b)) < room)
     → 0 < length (a ++ b) → n + length (written_lines (all_but_last (a ++ b))) < room
 within_then room n m a [] is first then = rw append-nil first
-within_then room n m a (line ∷ b) is first then = λ some.
-    omega (arith, is, then (omega arith), written-all_but_last a (line ∷ b) (omega arith))
+within_then room n m a (line ∷ b) is first then = grind (arith, written-all_but_last)
 
 pub passes_then : {R : Type 0} (room : ℕ) (a b c : MergeState R) (x y z : List ℕ) → AppendsPassedLines room a b x y
     → AppendsPassedLines room b c y z → AppendsPassedLines room a c x z

@@ -1,5 +1,5 @@
 -- The old side of a change, line by line.
-use Rattle.cweb_lines.proofs.Common.{rules, ◌≡◌, ◌+◌, ◌||◌, ℕ, Bool, false, List, [], ◌∷◌, ◌++◌, Some, None, Option, refl, sym, ◌∙◌, ap, subst, append_assoc, map, Place, OldSide, at_place, change_code, change_events, closing_faults, dropping, old_after, old_at, old_lines, SourceLine, Thing, raw, seek, reported, passed, Event, took, fault, SoFar, EmitsLines, ReadsNext, StopsAfterLines, StopsOldSide, Compares, IsReplaced, Replaces, FirstStops, CountsLine, TopStops, RefusesLine, Code, WantsY, Replaced, StopsFor, Stop, ReadFault, LineTooLong, TooMuchText, Memory}
+use Rattle.cweb_lines.proofs.Common.{rules, ◌≡◌, ◌+◌, ◌||◌, ℕ, Bool, false, List, [], ◌∷◌, ◌++◌, Some, None, Option, refl, sym, ◌∙◌, ap, subst, append_assoc, map, Place, OldSide, at_place, change_code, change_events, closing_faults, dropping, old_after, old_at, old_lines, SourceLine, Thing, raw, seek, reported, passed, Event, took, fault, SoFar, EmitsLines, ReadsNext, StopsAfterLines, StopsOldSide, Compares, IsReplaced, Replaces, FirstStops, CountsLine, TopStops, RefusesLine, Code, WantsY, Replaced, StopsFor, Stop, ReadFault, LineTooLong, TooMuchText, Memory, arith, common_steps}
 use Rattle.cweb_lines.specs.declared.change.code.Code.TheVariants.{NewSide as new_side}
 use Rattle.cweb_lines.proofs.AddedEvents.{takes_one, yields_more}
 use Rattle.cweb_lines.proofs.EmittedLinesAddUp.{yields_both}
@@ -49,34 +49,19 @@ module _ (all now : OldSide) (so_far : Replaced) (old mid : SoFar) (r : Replaces
 
   yields_in : (begin : Place) (later : List Event) (new : SoFar) → new ≡ mid
       → EmitsLines [] old new (change_events begin all ++ later) (now.events ++ after begin later)
-  yields_in begin later new same = subst (λ (es : List Event).
-      EmitsLines [] old new es (now.events ++ after begin later)) (sym (append_assoc all.events (map fault
-      (closing_faults begin all.ended all.ran_out all.unequal)) later))
-      (yields_more (after begin later) (rw same r.yields))
+  yields_in begin later new same = grind (arith, append_assoc, yields_more)
 
   stops_at : (stop : Stop) (new : SoFar) → new ≡ mid → (line : SourceLine) (more : List Event)
       → now.events ≡ took line ∷ more → RefusesLine stop mid.count line → (begin : Place) (later : List Event)
       → StopsAfterLines [] stop old new (change_events begin all ++ later)
-  stops_at stop new same line more first why begin later = record {
-    line = line;
-    later = more ++ after begin later;
-    yields = subst (λ (es : List Event).
-        EmitsLines [] old new (change_events begin all ++ later) (es
-        ++ after begin later)) first (yields_in begin later new same);
-    why = rw same why;
-  }
+  stops_at stop new same line more first why begin later = grind (arith, common_steps, yields_in)
 
   -- A line of this side can't be taken.
   side_stops : (stop : Stop) (new : SoFar) (Why : Type 0) → new ≡ mid → Reads now
       → (Why → (line : SourceLine) × ((more : List Event) × (now.events ≡ took line ∷ more))
       × RefusesLine stop mid.count line) → StopsFor Why stop → StopsOldSide stop old new all
-  side_stops (ReadFault file) new Why same reads first why begin later = record {
-    later = now.events ++ after begin later;
-    yields = yields_in begin later new same;
-    next = rw r.ended (reads begin all.ran_out all.unequal later);
-  }
-  side_stops (LineTooLong file) new Why same reads first why begin later =
-      let at = first why in stops_at _ new same at.0 at.1.0 at.1.1 at.2 begin later
+  side_stops (ReadFault file) new Why same reads first why begin later = grind (arith, common_steps, yields_in)
+  side_stops (LineTooLong file) new Why same reads first why begin later = grind (arith, common_steps, stops_at)
   side_stops TooMuchText new Why same reads first why begin later =
       let at = first why in stops_at _ new same at.0 at.1.0 at.1.1 at.2 begin later
   side_stops Memory new Why same reads first why begin later = tt

@@ -5,10 +5,7 @@ prefix_then : {A : Type 0} (a b c : List A) → IsPrefix a b → IsPrefix b c �
 prefix_then a b c first then = (first.0 ++ then.0, simp (then.1, first.1, append_assoc))
 
 pub reported_then : (a b c : SoFar) → KeepsReported a b → KeepsReported b c → KeepsReported a c
-reported_then a b c first then = record {
-  faults = prefix_then a.faults b.faults c.faults first.faults then.faults;
-  names = prefix_then a.names b.names c.names first.names then.names;
-}
+reported_then a b c first then = search (rules, prefix_then)
 
 pub reported_more : (old new : SoFar) (faults : List SourceFault) (names : List (List ℕ))
     → new.faults ≡ old.faults ++ faults → new.names ≡ old.names ++ names → KeepsReported old new
@@ -18,12 +15,7 @@ pub reported_same : (old new : SoFar) → new.faults ≡ old.faults → new.name
 reported_same old new faults names = reported_more old new [] [] (simp (faults, append-nil)) (simp (names, append-nil))
 
 pub reported_files : (old new : SoFar) → KeepsReported old new → length old.names ≤ length new.names
-reported_files old new reported = omega (
-  arith,
-  ap (λ (ns : List (List ℕ)). length ns) reported.names.1,
-  length-append old.names
-      reported.names.0,
-)
+reported_files old new reported = grind (arith, length-append)
 
 pub reported_emitted : (lines : List Line) (old new : SoFar) (all later : List Event)
     → EmitsLines lines old new all later
@@ -57,5 +49,4 @@ pub reported_passed : {R : Type 0} {room : ℕ} {old new : MergeState R} {buffer
 reported_passed {old = old} {new = new} passes = reported_emitted _ _ _ _ _ (passes.yields (λ _. None) (λ _. []))
 
 pub reported_halted : {old new : SoFar} → new ≡ old → KeepsReported old new
-reported_halted {old = old} {new = new} is = reported_same old new (ap (λ (s : SoFar). s.faults) is)
-    (ap (λ (s : SoFar). s.names) is)
+reported_halted {old = old} {new = new} is = search (rules, reported_same)

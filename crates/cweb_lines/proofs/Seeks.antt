@@ -1,5 +1,5 @@
 -- The search for an entry, line by line.
-use Rattle.cweb_lines.proofs.Common.{rules, ◌≡◌, ℕ, List, [], ◌∷◌, ◌++◌, Option, Some, None, refl, sym, ◌∙◌, ap, subst, append-nil, map, Place, Sought, sought, SourceLine, Event, took, fault, reported_faults, SoFar, EmitsLines, ReadsNext, ReportsPrefix, StopsAfterLines, Stopped, Searched, SeeksTo, LooksInPart, search_after, IsOutside, FirstStops, CountsLine, SourceFault, Stage, Done, Waiting, StopsFor, Stop, ReadFault, LineTooLong, TooMuchText, Memory}
+use Rattle.cweb_lines.proofs.Common.{◌≡◌, ℕ, List, [], ◌∷◌, ◌++◌, Option, Some, None, refl, sym, ◌∙◌, ap, subst, append-nil, map, Place, Sought, sought, SourceLine, Event, took, fault, reported_faults, SoFar, EmitsLines, ReadsNext, ReportsPrefix, StopsAfterLines, Stopped, Searched, SeeksTo, LooksInPart, search_after, IsOutside, FirstStops, CountsLine, SourceFault, Stage, Done, Waiting, StopsFor, Stop, ReadFault, LineTooLong, TooMuchText, Memory, arith}
 use Rattle.cweb_lines.specs.inner.ChangeProgress.{LooksAt}
 use Rattle.cweb_lines.specs.declared.change.seek.Look.TheVariants.{Entry as first_line, On as goes_on}
 use Rattle.cweb_lines.proofs.AddedEvents.{takes_one, reports, reports_some}
@@ -20,22 +20,11 @@ module _ (all : Sought) (lines : List SourceLine) (begin : Option Place) (old mi
     (seeks : SeeksTo all (sought lines begin) old mid) where
   seeks_stop : (stop : Stop) (new : SoFar) → new ≡ mid → FirstStops stop mid.count lines →
       StopsAfterLines [] stop old new all.events
-  seeks_stop stop new same stops =
-      let takes = sought_takes stops.line stops.rest begin in
-      record {
-        line = stops.line;
-        later = takes.0;
-        yields = search rules;
-        why = rw same stops.why;
-      }
+  seeks_stop stop new same stops = grind (arith, sought_takes)
 
   pub seeks_ends : (stop : Stop) (new : SoFar) → new ≡ mid → StopsFor (FirstStops stop mid.count lines) stop →
       Stopped stop old new all.events
-  seeks_ends (ReadFault file) new same stops = record {
-    later = (sought lines begin).events;
-    yields = rw same seeks.yields;
-    next = reads_sought lines begin;
-  }
+  seeks_ends (ReadFault file) new same stops = grind (arith, reads_sought)
   seeks_ends (LineTooLong file) new same stops = seeks_stop _ new same stops
   seeks_ends TooMuchText new same stops = seeks_stop _ new same stops
   seeks_ends Memory new same stops = tt

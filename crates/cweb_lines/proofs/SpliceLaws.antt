@@ -1,5 +1,5 @@
 -- Entries that match in order splice the web.
-use Rattle.cweb_lines.proofs.Common.{rules, ◌≡◌, ◌+◌, ℕ, true, false, List, [], ◌∷◌, ◌++◌, None, sym, ◌∙◌, ap, subst, arith, length, AllByRecursion, list_any, bytes_eq, SourceLine, lines_in, cut_lines, World, is_include_line, change_code, ChangesSplice, IsPlainSplice, Splice, is_change_code, spliced, web_lines, followed_by, only_lines, placed, outcome_of_events, raws, seek, merge, or_parts}
+use Rattle.cweb_lines.proofs.Common.{rules, ◌≡◌, ◌+◌, ℕ, true, false, List, [], ◌∷◌, ◌++◌, None, ◌∙◌, ap, subst, arith, length, AllByRecursion, list_any, SourceLine, World, is_include_line, ChangesSplice, IsPlainSplice, Splice, is_change_code, spliced, web_lines, followed_by, only_lines, placed, outcome_of_events, raws, seek, merge, or_parts}
 use Rattle.cweb_lines.specs.laws.Laws.{spliced_change_lines}
 use Rattle.cweb_lines.proofs.Merges.{state}
 use Rattle.cweb_lines.proofs.Entries.{bytes_in, finds_none, yields_alone}
@@ -125,25 +125,7 @@ edit_of web change s later later' lines changes w c = record {
 plain_edit : (web change : ℕ) (s : Splice) (later later' : List (List ℕ)) (lines changes : List SourceLine)
     (w : WebParts web s later lines) (c : ChangeParts change s later' changes)
     → IsPlainSplice s → IsPlain (edit_of web change s later later' lines changes w c)
-plain_edit web change s later later' lines changes w c is =
-    let old = or_parts (is_change_code s.first) (list_any is_change_code s.further) is.old in
-    let stays_is = bytes_of 0 web s.stays w.stays w.stays_inside in
-    let new_is = bytes_of 1 (change + length s.comment + length s.further + 3) s.new c.new c.new_inside in
-    record {
-      no_comment = ap (list_any is_change_code) c.comment_is ∙ is.comment;
-      begins = ap change_code c.begin_is ∙ is.begins;
-      some = λ none. is.some (sym c.first_is ∙ none);
-      no_first = ap change_code c.first_is ∙ no_code (change_code s.first) old.0;
-      no_old = ap (list_any is_change_code) c.further_is ∙ old.1;
-      turns = ap change_code c.middle_is ∙ is.turns;
-      no_new = ap (list_any is_change_code) new_is ∙ is.new;
-      ends = ap change_code c.end_is ∙ is.ends;
-      new_plain = ap (list_any is_include_line) new_is ∙ is.new_plain;
-      same_first = w.first ∙ sym c.first_is;
-      same_old = w.further ∙ sym c.further_is;
-      stays_plain = ap (list_any is_include_line) stays_is ∙ is.stays_plain;
-      others = (λ i. list_any (λ line. bytes_eq line (c.first_is i)) (stays_is i)) ∙ is.first_there;
-    }
+plain_edit web change s later later' lines changes w c is = grind (arith, or_parts, bytes_of, no_code)
 
 splices_all : (world : World) (splices : List Splice) (web change : ℕ) (after comment : List (List ℕ))
     (lines changes : List SourceLine) → AllByRecursion IsPlainSplice splices
@@ -169,6 +151,4 @@ splices_all world (s ∷ splices) web change after comment lines changes all pla
 
 pub changes_splice : ChangesSplice
 changes_splice world web change splices after comment all plain_after no_codes web_is change_is =
-    splices_all world splices 1 1 after comment (lines_in 0 web) (lines_in 1 change) all plain_after no_codes
-    (inside_of 0 1 (cut_lines web) ∙ ap (placed 0 1) web_is)
-    (inside_of 1 1 (cut_lines change) ∙ ap (placed 1 1) change_is)
+    grind (arith, splices_all, inside_of)

@@ -1,5 +1,5 @@
 -- One change and the lines around it.
-use Rattle.cweb_lines.proofs.Common.{◌≡◌, ◌≢◌, ◌&&◌, ℕ, true, false, List, [], ◌∷◌, ◌++◌, map, None, Some, refl, sym, ◌∙◌, ap, subst, append-nil, append_assoc, bytes_eq-Decides, list_any, bytes_eq, SourceLine, World, is_include_line, WaitingEntry, OldSide, change_code, is_change_code, followed_by, only_lines, outcome_of_events, Event, NewSide, Next, RawLine, Thing, after_old, at_entry, change_events, old_lines, passed, raw, raws, seek, taking, took, merge, merge_next}
+use Rattle.cweb_lines.proofs.Common.{◌≡◌, ◌≢◌, ◌&&◌, ℕ, true, false, List, [], ◌∷◌, ◌++◌, map, None, Some, refl, ◌∙◌, ap, append-nil, append_assoc, bytes_eq-Decides, list_any, bytes_eq, SourceLine, World, is_include_line, WaitingEntry, OldSide, change_code, is_change_code, followed_by, only_lines, outcome_of_events, Event, NewSide, Next, RawLine, Thing, after_old, at_entry, change_events, old_lines, passed, raw, raws, seek, taking, took, merge, merge_next, arith}
 use Rattle.cweb_lines.specs.declared.change.code.Code.TheVariants.{EndSide as end_side, NewSide as new_side, OldSide as old_side}
 use Rattle.cweb_input.proofs.SourceStacks.{raws-append}
 use Rattle.cweb_lines.proofs.Merges.{state}
@@ -64,8 +64,7 @@ module _ (world : World) (files : ℕ) (e : Edit) (plain_edit : IsPlain e) (chan
   next_by side = (change_events entry.begin side, after_old side.ended files 1 entry.begin side)
 
   splits : Splits (old_lines old_on (raws 1 true (e.old ++ after))) new_on rest
-  splits = subst (λ (ts : List Thing). Splits (old_lines old_on ts) new_on rest) (sym (raws-append 1 true e.old after))
-      (old_splits e.further e.y new_on 1 true e.old rest plain_edit.no_old plain_edit.turns plain_edit.same_old)
+  splits = grind (arith, raws-append, old_splits)
 
   abbrev side_is : OldSide
   side_is = record {

@@ -1,7 +1,6 @@
 -- The events before a stop.
-use Rattle.cweb_lines.proofs.Common.{rules, ◌≡◌, ◌++◌, ℕ, zero, suc, List, [], ◌∷◌, Option, Some, None, refl, sym, ◌∙◌, ap, subst, Bool, Place, WaitingEntry, World, SourceLine, NewSide, Thing, seek, raw, raws, reported, passed, Event, took, fault, at_place, NoMatch, sought, new_at, new_lines, things_over, things_above, things_in, lines_at, matches_at, number_or_zero, source_depth, ◌+◌, SoFar, ReadsNext, IsAtEnd, StopsAfterLines, Stopped, TopStops, StopsFor, RefusesLine, change_code, Code, Stage, Seeking, Changing, Stack, OpenSource, merge, merge_end, merge_next, so_far_of, counters_of, OnlyTakes, MergeState, Result, Ok, Err, IfErr, OnErr, ReportsPrefix, Stop, ReadFault, LineTooLong, TooMuchText, Memory}
+use Rattle.cweb_lines.proofs.Common.{rules, ◌≡◌, ◌++◌, ℕ, zero, suc, List, [], ◌∷◌, Option, Some, None, refl, sym, ◌∙◌, ap, subst, Bool, Place, WaitingEntry, World, SourceLine, NewSide, Thing, seek, raw, raws, reported, passed, Event, took, fault, at_place, NoMatch, sought, new_at, new_lines, things_over, things_above, things_in, ◌+◌, SoFar, ReadsNext, IsAtEnd, Stopped, TopStops, StopsFor, RefusesLine, Code, Stage, Seeking, Changing, Stack, OpenSource, merge, merge_end, merge_next, so_far_of, counters_of, OnlyTakes, MergeState, Result, Ok, Err, IfErr, OnErr, ReportsPrefix, Stop, Memory, arith}
 use Rattle.cweb_lines.specs.declared.change.code.Code.TheVariants.{EndSide as end_side}
-use Rattle.std.specs.Prelude.{slice_index_or}
 use Rattle.cweb_lines.specs.surface.MergerCalls.{StopsThere}
 use Rattle.cweb_lines.proofs.Merges.{yields_nothing, merge_takes, state}
 
@@ -15,8 +14,7 @@ ReadsFirst (reported f ∷ things) = IsAtEnd f.kind
 
 pub reads_next : (world : World) (things : List Thing) (pending : Option WaitingEntry) (change : List SourceLine)
     (files : ℕ) → ReadsFirst things → ReadsNext (merge world (state things pending change files))
-reads_next world [] None change files first =
-    subst ReadsNext (sym (merge_end world (state [] None change files) refl)) tt
+reads_next world [] None change files first = grind (arith, merge_end)
 reads_next world [] (Some entry) change files first =
     subst ReadsNext (sym (merge_next world (state [] (Some entry) change files)
     (fault (at_place NoMatch entry.begin) ∷ [], state [] None change files) refl)) tt
@@ -44,10 +42,7 @@ raws_first depth may_match (line ∷ lines) rest first = tt
 over_first : {R : Type 0} (left : R → List ℕ) (low n : ℕ) (texts : List (Option (OpenSource R))) (rest : List Thing)
     → ReadsFirst rest → ReadsFirst (things_over left low n texts rest)
 over_first left low zero texts rest first = first
-over_first left low (suc n) texts rest first =
-    let slot = slice_index_or texts (low + n) None in
-    raws_first (number_or_zero source_depth slot) (matches_at slot) (lines_at left slot)
-    (things_over left low n texts rest) (over_first left low n texts rest first)
+over_first left low (suc n) texts rest first = grind (arith, raws_first, over_first left low n texts rest first)
 
 pub above_first : {R : Type 0} (left : R → List ℕ) (low : ℕ) (stack : Stack R) (rest : List Thing) → ReadsFirst rest
     → ReadsFirst (things_above left low stack rest)
@@ -61,13 +56,11 @@ new_at_first _ depth line lines side rest = tt
 pub new_first : (depth : ℕ) (begin : Place) (lines : List SourceLine) (rest : List Thing)
     → ReadsFirst ((new_lines depth begin lines).things ++ rest)
 new_first depth begin [] rest = tt
-new_first depth begin (line ∷ lines) rest =
-    new_at_first (change_code line.line.bytes) depth line lines (new_lines depth begin lines) rest
+new_first depth begin (line ∷ lines) rest = grind (arith, new_at_first)
 
 pub things_first : {R : Type 0} (left : R → List ℕ) (stage : Stage) (lines : List SourceLine) (stack : Stack R)
     → ReadsFirst (things_in left stage lines stack)
-things_first left (Changing change) lines stack =
-    above_first left change.below stack _ (new_first change.depth change.begin lines _)
+things_first left (Changing change) lines stack = grind (arith, above_first, new_first)
 things_first left Seeking lines stack = above_first left 0 stack [] tt
 things_first left _ lines stack = above_first left 0 stack [] tt
 
@@ -75,27 +68,7 @@ pub stopped_first : (stop : Stop) (Why : Type 0) (old new : SoFar) (all : List E
     → (Why → (line : SourceLine) × ((later : List Event) × (all ≡ took line ∷ later))
     × RefusesLine stop old.count line) →
     StopsFor Why stop → Stopped stop old new all
-stopped_first stop Why old new all same next first = by stop first
-  where
-    one : (stop : Stop) → (line : SourceLine) × ((later : List Event) × (all ≡ took line ∷ later)) × RefusesLine stop
-        old.count line → StopsAfterLines [] stop old new all
-    one stop first = record {
-      line = first.0;
-      later = first.1.0;
-      yields = rw same (yields_nothing old old all _ refl first.1.1 refl refl);
-      why = rw same first.2;
-    }
-
-    by : (stop : Stop)
-        → (Why → (line : SourceLine) × ((later : List Event) × (all ≡ took line ∷ later))
-        × RefusesLine stop old.count line)
-        → StopsFor Why stop → Stopped stop old new all
-    by (ReadFault file) first why =
-        record { later = all; yields = rw same (yields_nothing old old all all refl refl refl refl); next = next }
-    by (LineTooLong file) first why = one (LineTooLong file) (first why)
-    by TooMuchText first why = one TooMuchText (first why)
-    by Memory first why = tt
-    by stop first why = absurd why
+stopped_first stop Why old new all same next first = grind (arith, yields_nothing)
 
 pub stopped_by : (stop : Stop) (old new : SoFar) (world : World) (things : List Thing) (pending : Option WaitingEntry)
     (change : List SourceLine) (files : ℕ) → new ≡ old → ReadsFirst things
@@ -129,7 +102,4 @@ pub stops_unreported : {A : Type 0} (result : Result A Stop) (old mid new : SoFa
     → OnErr result ((new.faults ≡ mid.faults) × (new.names ≡ mid.names))
     → IfErr result (λ stop. StopsThere stop old new all)
 stops_unreported (Ok x) old mid new all faults names memory same = tt
-stops_unreported (Err stop) old mid new all faults names memory same = record {
-  why = subst (λ s. Stopped s old new all) (sym memory) tt;
-  reported = unreported old new all (same.0 ∙ faults) (same.1 ∙ names);
-}
+stops_unreported (Err stop) old mid new all faults names memory same = grind (arith, unreported)

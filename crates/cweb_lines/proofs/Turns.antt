@@ -1,5 +1,5 @@
 -- The events of a turn: a search, a line that was taken, or a change that begins.
-use Rattle.cweb_lines.proofs.Common.{Sought, OldSide, ◌≡◌, ◌&&◌, ℕ, Bool, true, false, List, [], ◌∷◌, ◌++◌, Some, None, Option, refl, sym, ◌∙◌, ap, length, if◌then◌else◌, subst, bytes_eq, Place, WaitingEntry, old_lines, sought, optional_string_bytes, world_in, World, Line, SourceLine, Event, RawLine, Thing, after_old, at_entry, change_events, raw, seek, taking, took, SoFar, change_lines, events_to_come, events_after_line, pending_of, things_of, so_far_of, opened_file_names, IsChanged, Searched, IsOutside, begun_by, change_in, pending_in, things_in, IsSettled, floor_of, lines_at, raw_thing, things_above, StaysBelow, StopsOldSide, TakesAbove, merge, merge_next, MergeState, Stack, Stage, Seeking, Waiting, Changing, LineAt, counters_of, OnlyTakes, CountsLine, ReportsPrefix, Stopped, Stop, EmitsLines}
+use Rattle.cweb_lines.proofs.Common.{Sought, OldSide, ◌≡◌, ◌&&◌, ℕ, Bool, true, List, [], ◌∷◌, ◌++◌, Some, None, Option, refl, sym, ◌∙◌, ap, length, subst, bytes_eq, Place, WaitingEntry, old_lines, sought, optional_string_bytes, world_in, World, Line, SourceLine, Event, RawLine, Thing, after_old, at_entry, change_events, raw, seek, taking, took, SoFar, change_lines, events_to_come, events_after_line, pending_of, things_of, so_far_of, opened_file_names, IsChanged, Searched, IsOutside, begun_by, pending_in, things_in, IsSettled, floor_of, lines_at, raw_thing, things_above, StaysBelow, StopsOldSide, TakesAbove, merge, merge_next, MergeState, Stack, Stage, Seeking, Waiting, Changing, LineAt, counters_of, OnlyTakes, CountsLine, ReportsPrefix, Stopped, Stop, EmitsLines, arith, rules}
 use Rattle.cweb_lines.proofs.AddedEvents.{prefix_more, stopped_more, takes_one, yields_more}
 use Rattle.cweb_lines.proofs.EmittedLinesAddUp.{stopped_after, yields_both}
 use Rattle.cweb_lines.proofs.WrittenLinesAddUp.{tells_more}
@@ -36,29 +36,17 @@ module _ {R : Type 0} (t : List ℕ → Option (List ℕ)) (l : R
 
   pub sought_tells : (new : SoFar) → ReportsPrefix (so_far_of run) new found.events
       → ReportsPrefix (so_far_of run) new (events_to_come t l run)
-  sought_tells new prefix = subst (λ (es : List Event). ReportsPrefix (so_far_of run) new es) (sym sought_first)
-      (prefix_more after_search prefix)
+  sought_tells new prefix = grind (arith, sought_first, prefix_more)
 
   pub sought_stops : (stop : Stop) (new : SoFar) → Stopped stop (so_far_of run) new found.events
       → Stopped stop (so_far_of run) new (events_to_come t l run)
-  sought_stops stop new stopped = subst (λ (es : List Event). Stopped stop (so_far_of run) new es) (sym sought_first)
-      (stopped_more stop _ new found.events after_search
-      (reads_next _ _ _ _ _ (above_first l 0 run.stack [] tt)) stopped)
+  sought_stops stop new stopped = grind (arith, sought_first, stopped_more, reads_next, above_first)
 
   pub sought_yields : (run' : MergeState R) → run'.inputs ≡ run.inputs → run'.stack ≡ run.stack
       → run'.names ≡ run.names → Searched found (so_far_of run)
       (so_far_of run') run'.stage run'.first.items (change_lines l run')
       → EmitsLines [] (so_far_of run) (so_far_of run') (events_to_come t l run) (events_to_come t l run')
-  sought_yields run' inputs stack names ends =
-      let later : after_search ≡ events_to_come t l run' = sym (ap (λ (things : List Thing). coming_of t
-      (optional_string_bytes run'.inputs) l run'.stage run'.change
-      run'.first.items (length (opened_file_names run'.names)) things)
-      (outside_things l run'.stage (change_lines l run') run'.stack ends.outside)
-      ∙ (λ i. merge (world_in t (inputs i)) (state (things_above l 0
-      (stack i) []) (ends.entry i) (ends.rest i) (length (opened_file_names (names i)))))) in
-      subst (λ (es : List Event). EmitsLines [] (so_far_of run) (so_far_of run') es (events_to_come t l run'))
-      (sym sought_first) (subst (λ (es : List Event). EmitsLines [] (so_far_of run) (so_far_of run')
-      (found.events ++ after_search) es) later (yields_more after_search ends.yields))
+  sought_yields run' inputs stack names ends = search (rules, outside_things, sought_first, yields_more)
 
 pub raw_taken : {R : Type 0} (t : List ℕ → Option (List ℕ)) (l : R → List ℕ) (old new : MergeState R) (at : LineAt)
     (bytes : List ℕ) → IsSettled old.stage → TakesAbove l (floor_of old.stage) old.stack new.stack
@@ -81,13 +69,7 @@ begun_entry : (p : Option WaitingEntry) (may_match : Bool) (bytes : List ℕ) (p
     begun_by p may_match bytes ≡ Some place → (entry : WaitingEntry) × (p ≡ Some entry) × (entry.begin ≡ place)
     × ((may_match && bytes_eq bytes entry.first) ≡ true)
 begun_entry None may_match bytes place is = absurd (cc)
-begun_entry (Some entry) may_match bytes place is = by (may_match && bytes_eq bytes entry.first) refl is
-  where
-    by : (b : Bool) → (may_match && bytes_eq bytes entry.first) ≡ b → (if b then Some entry.begin else None) ≡ Some
-        place → (e : WaitingEntry) × (Some entry ≡ Some e) × (e.begin ≡ place)
-        × ((may_match && bytes_eq bytes e.first) ≡ true)
-    by true test found = (entry, refl, cc, test)
-    by false test found = absurd (cc)
+begun_entry (Some entry) may_match bytes place is = grind arith
 
 begin_step : (world : World) (entry : WaitingEntry) (source : SourceLine) (bytes : List ℕ) (at : LineAt)
     → source.line ≡ record { bytes = bytes; place = at.place }
@@ -123,15 +105,7 @@ module _ {R : Type 0} (t : List ℕ → Option (List ℕ)) (l : R → List ℕ) 
       ≡ record { bytes = bytes; place = at.place } → begun_by (pending_of run) at.may_match bytes ≡ Some begin
       → events_after_line t l run at source ≡ took source ∷ change_events begin side
       ++ later_old (world_in t run.inputs) (length (opened_file_names run.names)) at.depth begin
-  begins_here at source bytes begin is begun =
-      let found = begun_entry (pending_of run) at.may_match bytes begin begun in
-      let stage = waits run.stage run.first.items found.0 found.1 in
-      let files = length (opened_file_names run.names) in
-      (λ i. merge (world_in t run.inputs) (state (raw_thing at source ∷ things_in l (stage.1 i) (change_lines l run)
-      run.stack) (found.1 i) (change_in (stage.1 i) (change_lines l run)) files))
-      ∙ begin_step (world_in t run.inputs) found.0 source bytes at is found.3 things (change_lines l run) files
-      ∙ ap (λ (p : Place). took source ∷ change_events p side
-      ++ later_old (world_in t run.inputs) files at.depth p) found.2
+  begins_here at source bytes begin is begun = grind (arith, begun_entry, waits, begin_step)
 
   module _ (old : MergeState R) (at : LineAt) (bytes : List ℕ) (begin : Place) (all : List Event)
       (only : OnlyTakes old run)

@@ -1,5 +1,5 @@
 -- The written lines of consecutive calls are concatenated.
-use Rattle.cweb_lines.proofs.Common.{rules, ◌≡◌, ◌<◌, ◌+◌, ℕ, List, [], ◌∷◌, ◌++◌, length, refl, sym, ◌∙◌, ap, length-append, append-nil, append_assoc, FailsWithin, SinkModel, Writes, written, Line, Event, SoFar, EmitsLines, Stopped, StopsAfterLines, ReportsPrefix, emitted_lines, written_lines, all_but_last, WritesPrefix, WritesAll, WritesSome, WritesUpTo, HasWritten, StopsWriting, Stop, ReadFault, LineTooLong, TooMuchText, Memory}
+use Rattle.cweb_lines.proofs.Common.{rules, ◌≡◌, ◌<◌, ◌+◌, ℕ, List, [], ◌∷◌, ◌++◌, length, refl, ap, length-append, append-nil, append_assoc, FailsWithin, SinkModel, Writes, written, Line, Event, SoFar, EmitsLines, Stopped, StopsAfterLines, ReportsPrefix, emitted_lines, written_lines, all_but_last, WritesPrefix, WritesAll, WritesSome, WritesUpTo, HasWritten, StopsWriting, Stop, ReadFault, LineTooLong, TooMuchText, Memory, arith}
 use Rattle.cweb_files.proofs.Appending.{fails_then, written_none}
 use Rattle.cweb_lines.proofs.LinesInBuffer.{all_but_last-append}
 use Rattle.cweb_lines.proofs.EmittedLinesAddUp.{emitted-append, reported-append, openings-append, yields_both, after_both, reads_both}
@@ -19,35 +19,17 @@ text_of-append (line ∷ a) b = simp (text_of-append a b, append_assoc)
 
 pub written-all_but_last : (a b : List Line) → 0 < length b → length (written_lines (all_but_last (a ++ b)))
     ≡ length (written_lines a) + length (written_lines (all_but_last b))
-written-all_but_last a b some =
-    ap (λ (ls : List Line). length (written_lines ls)) (all_but_last-append a b some)
-    ∙ ap (λ (t : List ℕ). length t) (text_of-append a (all_but_last b))
-    ∙ length-append (written_lines a) (written_lines (all_but_last b))
+written-all_but_last a b some = grind (arith, all_but_last-append, text_of-append, length-append)
 
 -- A prefix of the whole output: whole lines, then a prefix of the buffered lines.
 pub prefix_of_all : (all done buffered now : List Line) (old mid new : SinkModel) (buffer : List ℕ) → all ≡ done ++
     (buffered ++ now) → mid ≡ written (written_lines done) old → buffer ≡ written_lines buffered
     → FailsWithin buffer mid new → WritesPrefix (written_lines all) old new
 prefix_of_all all done buffered now old mid new buffer whole wrote is fails =
-    let all_fails = fails_then (written_lines done) wrote fails in
-    record {
-      prefix = all_fails.prefix;
-      rest = all_fails.rest ++ written_lines now;
-      whole = ap written_lines whole ∙ text_of-append done (buffered ++ now)
-          ∙ ap (λ (t : List ℕ). written_lines done ++ t) (text_of-append buffered now)
-          ∙ sym (append_assoc (written_lines done) (written_lines buffered) (written_lines now))
-          ∙ ap (λ (t : List ℕ). (written_lines done ++ t) ++ written_lines now) (sym is)
-          ∙ ap (λ (t : List ℕ). t ++ written_lines now) all_fails.whole
-          ∙ append_assoc all_fails.prefix all_fails.rest (written_lines now);
-      is = ap (λ (sink : SinkModel). sink.contents) all_fails.is;
-    }
+    grind (arith, fails_then, text_of-append, append_assoc)
 
 pub nothing_yet : (sink : SinkModel) (so : SoFar) (all : List Event) → HasWritten so so all all (Writes sink sink)
-nothing_yet sink so all = record {
-  lines = [];
-  yields = search rules;
-  wrote = written_none sink;
-}
+nothing_yet sink so all = search (rules, written_none)
 
 module _ (first mid : SinkModel) (old so : SoFar) (all now : List Event)
     (g : HasWritten old so all now (Writes first mid)) where
@@ -69,12 +51,7 @@ module _ (first mid : SinkModel) (old so : SoFar) (all now : List Event)
       }
 
   pub written_some : WritesSome all (Writes first mid)
-  written_some = record {
-    lines = g.lines;
-    rest = emitted_lines now;
-    whole = emitted_prefix g.lines old so all now g.yields;
-    wrote = g.wrote;
-  }
+  written_some = search (rules, emitted_prefix)
 
   up_to : (stop : Stop) (new : SoFar) → StopsAfterLines [] stop so new now
       → WritesUpTo stop old new all (Writes first mid)

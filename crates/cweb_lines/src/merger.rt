@@ -34,8 +34,8 @@ impl<S: Shelf> Merger<S> {
     ghost use Rattle.cweb_lines.specs.surface.MergerCalls.{ReportsReadFailures, StopsThere, BeginsMerge};
     ghost use Rattle.cweb_lines.specs.surface.MergerCalls.{StopsAtStart, KnowsReaders, StaysKnown};
 
-    /// Opens the web under its name, else under `second`, and the change file if one is named. It reads nothing. An
-    /// included file is sought under its name, then in the folder `inputs`.
+    /// Opens the web under its name, else under `second`, and the change file if one is named. It stops only if one is
+    /// missing or memory is refused. It reads nothing. Included files may also be in the folder `inputs`.
     pub fn start(
         alloc: Global,
         shelf: &mut S,
@@ -86,7 +86,7 @@ impl<S: Shelf> Merger<S> {
     }
 
     /// The next merged line, without its newline, and its place. At the end it is `None`, and stays so. After a stop
-    /// each further call returns the same stop and leaves `line` empty.
+    /// each further call returns it and leaves `line` empty. Faults and file names are appended in order.
     pub fn next_line(&mut self, shelf: &mut S, line: &mut Vec<u8>) -> Result<Option<Place>, Stop>
         requires { (S.model shelf.old).failed + 1 < 2 ^ 64 }
         ensures grows { Grows (so_far self.old) (so_far self.new) }
@@ -142,10 +142,13 @@ impl<S: Shelf> Merger<S> {
         requires { IsSpanIn self.now.run line }
         ensures { result.now ≡ span_bytes self.now.run line }
     {
-        self.run.bytes_of(line)
+        match &self.run.stack.texts[self.run.stack.depth - 1] {
+            Some(text) => &text.source.buffer[line.from..line.to],
+            None => &[],
+        }
     }
 
-    /// The faults so far, in the order in which they occurred.
+    /// The faults so far, in the order in which they occurred. Each file in them has been opened.
     pub fn faults(&self) -> &[SourceFault]
         ensures value { result.now ≡ (so_far self.now).faults }
         ensures known { All (λ fault. fault.place.file.0 < length (so_far self.now).names)
@@ -161,7 +164,7 @@ impl<S: Shelf> Merger<S> {
         &self.run.names
     }
 
-    /// The stop that each further call returns.
+    /// The stop that each further call returns. A file in it has been opened.
     pub fn stopped(&self) -> Option<Stop>
         ensures stop { result ≡ stop_in self.now }
         ensures named { IfSome result (λ stop. files_named stop ≤ length (so_far self.now).names) }

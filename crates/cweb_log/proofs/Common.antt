@@ -48,5 +48,5 @@ pub use Rattle.cweb_log.specs.Items.{cycle_step, scan_item, name_item}
 pub use Rattle.cweb_log.specs.inner.LogText.{items_of, joined_parts, part_bytes, chunks_of, Buffers, AppendsToLog}
 pub use Rattle.cweb_log.specs.Log.{stop_line}
 pub use Rattle.cweb_log.specs.declared.options.Options.{Options}
-pub use Rattle.cweb_log.specs.declared.shown.Shown.{Shown}
+pub use Rattle.cweb_log.specs.declared.options.Shown.{Shown}
 pub use Rattle.cweb_log.specs.surface.Options.{options_of}

@@ -9,10 +9,6 @@ abbrev by_shown : List (List ℕ) → Option Shown → Option OptionsModel
 by_shown words shown =
     option_and_then (λ (shown : Shown). option_map (with_shown shown) (names_by (other_words words))) shown
 
-pub unnamed : (words : List (List ℕ)) (shown : Shown) → words_shown words shown_by_default ≡ Some shown
-    → names_by (other_words words) ≡ None → options_by words ≡ None
-unnamed words shown some none = ap (by_shown words) some ∙ ap (option_map (with_shown shown)) none
-
 pub asks : (words : List (List ℕ)) (shown : Shown) (web : List ℕ) (change out : Option (List ℕ))
     → words_shown words shown_by_default ≡ Some shown
     → slice_get (other_words words) 0 ≡ Some web → change ≡ slice_get (other_words words) 1

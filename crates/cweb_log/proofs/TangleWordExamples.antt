@@ -20,7 +20,7 @@ record Computed : Type 0 where
   -- ctangle a +s -bph
   options_after : options_by (codes "a" ∷ codes "+s" ∷ codes "-bph" ∷ [])
       ≡ Some (record {
-        shown = record { banner = false; progress = false; closing = false; statistics = true };
+        shown = record shown_by_default { banner = false; progress = false; closing = false; statistics = true };
         names = names (codes "a.w") (codes "a.web") (codes "a.c");
       })
   later_letters : words_shown (codes "-b" ∷ codes "x" ∷ codes "+b" ∷ []) shown_by_default ≡ Some shown_by_default

@@ -6,7 +6,7 @@ use Rattle.std.specs.Option.{option_map_or}
 use Rattle.std.specs.Str.{bytes_eq}
 use Rattle.cweb_out.specs.Outputs.{is_control, is_slash}
 use Rattle.cweb_rules.specs.Bytes.{is_letter}
-use Rattle.cweb_log.specs.declared.shown.Shown.{Shown}
+use Rattle.cweb_log.specs.declared.options.Shown.{Shown}
 
 -- A lone `-`.
 abbrev pub is_dash : List ℕ → Bool
@@ -70,7 +70,7 @@ web_names_by _ = None
 abbrev pub shown_by_default : Shown
 shown_by_default = record { banner = true; progress = true; closing = true; statistics = false }
 
--- A letter turned on or off. Letters other than `b`, `p`, `h` and `s` have no effect.
+-- A letter turned on or off. Any other letter has no effect.
 abbrev pub letter_shown : Bool → ℕ → Shown → Shown
 letter_shown on b shown =
     if b == 98 then record shown { banner = on }

@@ -3,7 +3,6 @@
 
 // command lines
 mod options;
-mod shown;
 mod words;
 
 // the texts for the log, as chunks
@@ -18,7 +17,6 @@ mod writing;
 
 pub use log_text::{LogLine, LogText};
 pub use names::file_name;
-pub use options::Options;
-pub use shown::Shown;
+pub use options::{Options, Shown};
 pub use words::MergeWords;
 pub use writing::{log_stop, write_log};

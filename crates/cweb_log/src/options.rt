@@ -4,11 +4,20 @@ ghost use Rattle.std.specs.List.{after_last};
 ghost use Rattle.std.specs.Option.{option_copied};
 ghost use Rattle.cweb_log.specs.CommandLine.{main_by, named_by, options_by, other_words, stem};
 ghost use Rattle.cweb_out.specs.Outputs.{is_slash};
+ghost use Rattle.cweb_rules.specs.Bytes.{is_letter};
 
-use crate::shown::Shown;
 use crate::words::{MergeWords, can_name_file, extended, is_option, with_extension};
 use cweb_lines::Stop;
 use std::alloc::{AllocError, Global};
+
+/// What the log of a run of `ctangle` has beside faults.
+#[derive(Clone, Copy, Debug)]
+pub struct Shown {
+    pub banner: bool,
+    pub progress: bool,
+    pub closing: bool,
+    pub statistics: bool,
+}
 
 /// The command line of `ctangle`: what the log has beside faults, and the names of the web, the change file and the
 /// main output. `second` is the name that is tried if there is no web of the first name.
@@ -27,7 +36,7 @@ pub struct Options {
 impl Options {
     ghost use Rattle.cweb_log.specs.surface.Options.{options_of, Parses};
 
-    /// Parses the arguments, without the program's own name. They are checked before anything is allocated.
+    /// Parses the arguments, without the program's name: files and options. It checks them before any allocation.
     pub fn read(alloc: Global, words: &[&str]) -> Result<Options, Stop>
         ensures { Parses (options_by (map (λ word. word.now) words.now)) options_of result }
     {
@@ -104,6 +113,71 @@ impl Options {
             main,
         })
     }
+}
+
+impl Shown {
+    ghost use Rattle.cweb_log.specs.CommandLine.{letter_shown, letters_shown, shown_by_default};
+    ghost use Rattle.cweb_log.specs.CommandLine.{word_shown, words_shown};
+
+    /// Parses the option words among these words: words of at least two bytes that begin with `-` or `+`, anywhere.
+    /// Later letters win. `None` if one of them has a byte that is no letter.
+    pub fn read(words: &[&str]) -> Option<Shown>
+        ensures { result ≡ words_shown (map (λ word. word.now) words.now) shown_by_default }
+    {
+        let mut shown = Shown {
+            banner: true,
+            progress: true,
+            closing: true,
+            statistics: false,
+        };
+        'words: for word in words {
+            if is_option(word.as_bytes()) {
+                shown = shown.with_word(word.as_bytes())?;
+            }
+        }
+        Some(shown)
+    }
+
+    fn with_word(self, word: &[u8]) -> Option<Shown>
+        ensures { result ≡ word_shown word.now self }
+    {
+        match word {
+            [sign, letters @ ..] => self.with_letters(*sign == b'+', letters),
+            [] => Some(self),
+        }
+    }
+
+    fn with_letters(self, on: bool, letters: &[u8]) -> Option<Shown>
+        ensures { result ≡ letters_shown on letters.now self }
+    {
+        let mut shown = self;
+        'letters: for letter in letters {
+            if !is_letter(*letter) {
+                return None;
+            }
+            shown = shown.with_letter(on, *letter);
+        }
+        Some(shown)
+    }
+
+    fn with_letter(mut self, on: bool, letter: u8) -> Shown
+        ensures { result ≡ letter_shown on letter self }
+    {
+        match letter {
+            b'b' => self.banner = on,
+            b'p' => self.progress = on,
+            b'h' => self.closing = on,
+            b's' => self.statistics = on,
+            _ => {}
+        }
+        self
+    }
+}
+
+fn is_letter(byte: u8) -> bool
+    ensures { result ≡ is_letter byte }
+{
+    byte.is_ascii_alphabetic()
 }
 
 /// The word at an index among those that are no option words.

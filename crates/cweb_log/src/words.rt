@@ -24,7 +24,7 @@ impl MergeWords {
     ghost use Rattle.cweb_log.specs.inner.LogText.{merge_word_names};
     ghost use Rattle.cweb_log.specs.surface.Options.{Parses};
 
-    /// Parses the arguments, without the program's own name. They are checked before anything is allocated.
+    /// Parses the arguments, without the program's name, and adds extensions. It checks them before any allocation.
     pub fn read(alloc: Global, words: &[&str]) -> Result<MergeWords, Stop>
         ensures { Parses (web_names_by (map (λ word. word.now) words.now)) merge_word_names result }
     {

@@ -16,7 +16,7 @@ use itoa::Buffer;
 /// Log bytes that aren't written yet.
 type LogBuffer = ArrayVec<u8, 4096>;
 
-/// Writes a text to the log. A text that fits the buffer takes one write.
+/// Writes a text to the log, or after a fault a prefix. If it fits the buffer, it takes one write. Allocates nothing.
 #[inline(never)]
 pub fn write_log<L: Sink>(log: &mut L, text: LogText<'_>) -> Result<(), SinkFault>
     requires { (L.model log.old).failed + 1 < 2 ^ 64 }

@@ -1,5 +1,5 @@
 -- Names on a cycle have no rank.
-use Rattle.cweb_out.proofs.Common.{◌≡◌, ℕ, zero, suc, Bool, true, false, not, cond, ◌&&◌, List, [], ◌∷◌, ◌++◌, refl, sym, ◌∙◌, ap, inl, inr, subst, Option, Some, option_to_list, find, list_all, list_any, NameId, is_id, Token, Stored, joined, uses, ends_below, has_rank, first_endless, suffix, Frame, and_parts, or_cases, or_left, or_right, ◌⊎◌, Waiting}
+use Rattle.cweb_out.proofs.Common.{◌≡◌, ℕ, zero, suc, Bool, true, false, not, cond, ◌&&◌, List, [], ◌∷◌, ◌++◌, refl, sym, ◌∙◌, ap, inl, inr, subst, Some, find, list_all, list_any, NameId, is_id, Token, Stored, joined, uses, ends_below, has_rank, first_endless, suffix, Frame, and_parts, or_cases, or_left, or_right, ◌⊎◌, Waiting, arith}
 use Rattle.cweb_out.specs.inner.Search.{Chain, IsScanned, path_next, path_of}
 use Rattle.cweb_out.proofs.Ranks.{id-same}
 use Rattle.cweb_out.proofs.Paths.{is-same}
@@ -12,9 +12,7 @@ UsesOne w path n = (m : NameId) × (before : List NameId) ×
 pub next-on : (path : List Waiting) (again : NameId) (n : NameId)
     → path_next path (Some again) ≡ Some n → (n ≡ again) ⊎ (list_any (is_id n) (path_of path) ≡ true)
 next-on [] again n h = let e : again ≡ n = cc in inl (sym e)
-next-on (f ∷ path) again n h =
-    let e : f.name ≡ n = cc in
-    inr (or_left (is_id n f.name) (list_any (is_id n) (path_of path)) (ap (is_id n) e ∙ id-same n))
+next-on (f ∷ path) again n h = grind (arith, or_left, id-same)
 
 pub next-some : (path : List Waiting) (again : NameId) → (n : NameId) × (path_next path (Some again) ≡ Some n)
 next-some [] again = (again, refl)
@@ -23,14 +21,7 @@ next-some (f ∷ path) again = (f.name, refl)
 looked-next : {w : Stored} (whole : List NameId) (path : List Waiting) (f : Waiting) (again : NameId)
     → IsScanned w (joined w f.name) f.text (path_next path (Some again)) → list_any (is_id again) whole ≡ true →
     ((m : NameId) → list_any (is_id m) (path_of path) ≡ true → list_any (is_id m) whole ≡ true) → UsesOne w whole f.name
-looked-next {w} whole path f again l a sub =
-    let n = next-some path again in (
-      n.0,
-      l.before,
-      uses w (suffix w f.text),
-      l.same ∙ ap (λ (o : Option NameId). l.before ++ (option_to_list o ++ uses w (suffix w f.text))) n.1,
-      elim (next-on path again n.0 n.1) [ inl e ↦ ap (λ m. list_any (is_id m) whole) e ∙ a | inr h ↦ sub n.0 h ],
-    )
+looked-next {w} whole path f again l a sub = grind (arith, next-some, next-on)
 
 chain-uses : (w : Stored) (whole : List NameId) (path : List Waiting) (again n : NameId)
     → Chain w path (Some again) → list_any (is_id again) whole ≡ true
@@ -38,8 +29,8 @@ chain-uses : (w : Stored) (whole : List NameId) (path : List Waiting) (again n :
     → list_any (is_id n) (path_of path) ≡ true → UsesOne w whole n
 chain-uses w whole [] again n c a sub h = cc
 chain-uses w whole (f ∷ path) again n c a sub h =
-    let later : (m : NameId) → list_any (is_id m) (path_of path) ≡ true → list_any (is_id m) whole ≡ true = λ m k.
-    sub m (or_right (is_id m f.name) (list_any (is_id m) (path_of path)) k) in
+    let later : (m : NameId) → list_any (is_id m) (path_of path) ≡ true → list_any (is_id m) whole ≡ true =
+    grind (arith, or_right) in
     elim (or_cases (is_id n f.name) (list_any (is_id n) (path_of path)) h) [
       | inl e ↦ subst (UsesOne w whole) (sym (is-same n f.name e)) (looked-next whole path f again c.0 a later)
       | inr e ↦ chain-uses w whole path again n c.1 a later e
@@ -69,8 +60,7 @@ find-first : (p : NameId → Bool) (before rest : List NameId) (n : NameId) → 
     → p n ≡ false → find (λ m. not (p m)) (before ++ (n ∷ rest)) ≡ Some n
 find-first p [] rest n a h = ap (λ b. cond (not b) (Some n) (find (λ m. not (p m)) rest)) h
 find-first p (x ∷ before) rest n a h =
-    ap (λ b. cond (not b) (Some x) (find (λ m. not (p m)) (before ++ (n ∷ rest))))
-    (and_parts (p x) (list_all p before) a).0 ∙ find-first p before rest n (and_parts (p x) (list_all p before) a).1 h
+    grind (arith, and_parts, find-first p before rest n (and_parts (p x) (list_all p before) a).1 h)
 
 pub looked-endless : {w : Stored} {list : List Token} {frame : Frame} (n : NameId) → IsScanned w list frame (Some n)
     → has_rank w n ≡ false → (first_endless w list ≡ Some n) × (list_all (has_rank w) (uses w list) ≡ false)

@@ -1,5 +1,5 @@
 -- The reported cycle is a cycle: the walk goes on until a name repeats, and each name uses the next one.
-use Rattle.cweb_out.proofs.Common.{◌≡◌, ◌<◌, ◌+◌, ℕ, zero, suc, Bool, true, false, not, cond, List, [], ◌∷◌, ◌++◌, refl, sym, ◌∙◌, ap, arith, length, length-append, inl, inr, drop, map, subst, Option, Some, None, All, Result, Ok, Err, find, filter, bytes_eq, list_any, position_or_len, NameId, is_id, has_part, has_defs_code, Stored, names, joined, program, uses, first_endless, has_rank, list_ends, cycle_from, walk, IsRoot, Planned, Refusal, bad_name, same_name, cycle, defs_first, file_outputs, has_no_program, is_good_name, name_spelling, output_name, output_of, outputs, planned, planned_apart, planned_ending, root_list, start_of, AreNew, EachUsesNext, IsCycle, not-true}
+use Rattle.cweb_out.proofs.Common.{◌≡◌, ◌<◌, ◌+◌, ℕ, zero, suc, Bool, true, false, not, cond, List, [], ◌∷◌, ◌++◌, refl, ap, arith, length, length-append, drop, map, subst, Option, Some, None, All, Result, Ok, Err, find, filter, bytes_eq, list_any, position_or_len, NameId, is_id, has_part, Stored, names, joined, program, first_endless, has_rank, list_ends, cycle_from, walk, IsRoot, Planned, Refusal, bad_name, same_name, cycle, defs_first, file_outputs, has_no_program, is_good_name, name_spelling, output_name, output_of, outputs, planned, planned_apart, planned_ending, root_list, start_of, AreNew, EachUsesNext, IsCycle, not-true}
 use Rattle.cweb_names.specs.Names as spec
 use Rattle.cweb_store.proofs.BoundLemmas.{files-within}
 use Rattle.cweb_out.proofs.Paths.{is-same, new-push, on-pushed, split-or}
@@ -18,10 +18,7 @@ came-on : {w : Stored} (before : List NameId) (n : NameId) (c : Came w before n)
     → (e : Endless w (joined w n)) → Came w (before ++ n ∷ []) e.name
 came-on {w} before n c fresh e = record {
   new = new-push [] before n c.new fresh;
-  within = λ m h. elim (split-or (list_any (is_id m) before) (is_id m n) (sym (on-pushed before m n) ∙ h)) [
-    | inl a ↦ c.within m a
-    | inr a ↦ rw (is-same m n a) c.name
-  ];
+  within = grind (arith, split-or, on-pushed, is-same);
   each = each-push w before n e.name e.used c.each;
   rankless = e.rankless;
   name = uses-on w (joined w n) e.name e.used;
@@ -103,8 +100,7 @@ program-ends w false = refl
 
 stuck-cycle : {w : Stored} (o : Option NameId) → Stuck w o → IsCycle w (cycle_from w (start_of w o))
 stuck-cycle {w} None s =
-    let e : Endless w (program w) =
-    failing (uses w (program w)) (sym (program-ends w (not (has_defs_code w.parts))) ∙ s.ends) in
+    let e : Endless w (program w) = grind (arith, failing, program-ends) in
     rw e.first (walk-cycle e.name e.rankless (uses-on w (program w) e.name e.used))
 stuck-cycle {w} (Some n) s = walk-cycle n (name-endless w n s.ends) s.root
 

@@ -1,5 +1,5 @@
 -- Direct tokens need no frame.
-use Rattle.cweb_out.proofs.Common.{◌≡◌, ◌++◌, ◌∙◌, [], ◌∷◌, refl, ap, List, true, flat_map, list_all, NameId, Token, Name, Stored, put, AreDirect, is_direct, and_parts}
+use Rattle.cweb_out.proofs.Common.{◌≡◌, ◌++◌, [], ◌∷◌, refl, List, true, flat_map, NameId, Token, Name, Stored, put, AreDirect, is_direct, and_parts, arith}
 
 put-direct : (w : Stored) (text : NameId → List Token) (t : Token) → is_direct t ≡ true → put w text t ≡ t ∷ []
 put-direct w text (Name r) h = cc
@@ -9,7 +9,4 @@ put-direct w text _ h = refl
 pub put-all-direct : (w : Stored) (text : NameId → List Token) (ts rest : List Token) → AreDirect ts
     → flat_map (put w text) (ts ++ rest) ≡ ts ++ flat_map (put w text) rest
 put-all-direct w text [] rest h = refl
-put-all-direct w text (t ∷ ts) rest h = ap (λ (us : List Token). us ++ flat_map (put w text) (ts ++ rest))
-    (put-direct w text t (and_parts (is_direct t) (list_all is_direct ts) h).0)
-    ∙ ap (λ (us : List Token). t ∷ us)
-    (put-all-direct w text ts rest (and_parts (is_direct t) (list_all is_direct ts) h).1)
+put-all-direct w text (t ∷ ts) rest h = grind (arith, put-direct, and_parts, put-all-direct w text ts rest)

@@ -1,8 +1,7 @@
 -- Only section comments are printed between joined tokens.
-use Rattle.cweb_out.proofs.Common.{◌≡◌, ℕ, Bool, true, false, List, [], ◌∷◌, ◌++◌, refl, sym, ◌∙◌, ap, arith, append_assoc, codes, Option, None, Some, list_all, Token, Punct, Blank, Newline, Join, Defs, Head, Tail, Setting, file_token_bytes, without_joined_layout, left_after, print, print_after, stays_joined, is_joined, sep}
+use Rattle.cweb_out.proofs.Common.{◌≡◌, ℕ, Bool, true, false, List, [], ◌∷◌, ◌++◌, refl, ap, arith, append_assoc, codes, Option, None, Some, list_all, Token, Punct, Blank, Newline, Join, Defs, Head, Tail, Setting, file_token_bytes, without_joined_layout, print_after, stays_joined, sep}
 use Rattle.std.specs.Prelude.{if◌then◌else◌}
 use Rattle.cweb_store.specs.Parts.{Mark, is_comment}
-use Rattle.cweb_print.specs.Printing.{plain_bytes}
 use Rattle.cweb_out.specs.laws.Laws.{blank_if, section_comments, OnlySectionCommentsComeBetweenJoinedTokens}
 use Rattle.cweb_out.proofs.LawLemmas.{print_goes_on}
 
@@ -62,11 +61,7 @@ module _ (s : Setting) (t : Token) (after : List Token) (ends : stays_joined tru
 
   at-token : (l : Token) → IsLeft l → print_after (file_token_bytes s) (Some l) (without_joined_layout true (t ∷ after))
       ≡ rest
-  at-token l h =
-      let tail = print_after (file_token_bytes s) (Some t) (without_joined_layout false after) in
-      ap (print_after (file_token_bytes s) (Some l)) (ends-join t after ends)
-      ∙ ap (λ u. (u ++ file_token_bytes s (Some l) t) ++ tail) (no_blank l h t (no-comment t ends))
-      ∙ ap (λ u. u ++ tail) (same-bytes s l h t ends)
+  at-token l h = grind (arith, ends-join, no_blank, no-comment, same-bytes)
 
   between-tokens : (l : Token) → IsLeft l → (between : List Token) → list_all (stays_joined true) between ≡ true
       → print_after (file_token_bytes s) (Some l) (without_joined_layout true (between ++ t ∷ after))
@@ -75,21 +70,11 @@ module _ (s : Setting) (t : Token) (after : List Token) (ends : stays_joined tru
   between-tokens l h (Blank ∷ between) e = between-tokens l h between e
   between-tokens l h (Newline ∷ between) e = between-tokens l h between e
   between-tokens l h (Mark p ∷ between) e = between-tokens l h between e
-  between-tokens l h (Join ∷ between) e =
-      let more = print_after (file_token_bytes s) (Some Join) (without_joined_layout true (between ++ t ∷ after)) in
-      ap (λ u. (u ++ []) ++ more) (no_blank l h Join refl) ∙ between-tokens Join tt between e
+  between-tokens l h (Join ∷ between) e = grind (arith, no_blank, between-tokens Join tt between e)
   between-tokens l h (Head n ∷ between) e =
-      let more = print_after (file_token_bytes s) (Some (Head n)) (without_joined_layout true (between ++ t ∷ after)) in
-      let bytes = plain_bytes s.replaced (Head n) in
-      ap (λ u. (u ++ bytes) ++ more) (blank-head l h n)
-      ∙ ap (λ u. (blank_if (is_join l) ++ bytes) ++ u) (between-tokens (Head n) tt between e)
-      ∙ sym (append_assoc (blank_if (is_join l) ++ bytes) (section_comments s false between) rest)
+      grind (arith, blank-head, append_assoc, between-tokens (Head n) tt between e)
   between-tokens l h (Tail n ∷ between) e =
-      let more = print_after (file_token_bytes s) (Some (Tail n)) (without_joined_layout true (between ++ t ∷ after)) in
-      let bytes = plain_bytes s.replaced (Tail n) in
-      ap (λ u. (u ++ bytes) ++ more) (blank-tail l h n)
-      ∙ ap (λ u. (blank_if (is_join l) ++ bytes) ++ u) (between-tokens (Tail n) tt between e)
-      ∙ sym (append_assoc (blank_if (is_join l) ++ bytes) (section_comments s false between) rest)
+      grind (arith, blank-tail, append_assoc, between-tokens (Tail n) tt between e)
   between-tokens l h (u ∷ between) e = cc
 
 -- A Join itself prints nothing.
@@ -106,10 +91,4 @@ join-stays false ts = refl
 
 pub only_section_comments_come_between_joined_tokens : OnlySectionCommentsComeBetweenJoinedTokens
 only_section_comments_come_between_joined_tokens s before between after t stays ends =
-    let l = left_after before in
-    let text = file_token_bytes s in
-    let more = print_after text (Some Join) (without_joined_layout true (between ++ t ∷ after)) in
-    print_goes_on s before (Join ∷ (between ++ t ∷ after))
-    ∙ ap (λ us. print s before ++ print_after text l us) (join-stays (is_joined before) (between ++ t ∷ after))
-    ∙ ap (λ u. print s before ++ ((u ++ []) ++ more)) (sep-join l)
-    ∙ ap (λ u. print s before ++ u) (between-tokens s t after ends Join tt between stays)
+    grind (arith, print_goes_on, join-stays, sep-join, between-tokens)

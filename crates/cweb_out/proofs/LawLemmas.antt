@@ -31,13 +31,8 @@ put-same w f t h = refl
 pub replaces_uses : {w : Stored} {k : ℕ} → ReplacesUses w k
 replaces_uses {w} {k} = record {
   no_use = λ ts. puts-text w (expanded_name w k) ts (name-text w k);
-  kept = λ before after t h. flat_map-append (put w (expanded_name w k)) before (t ∷ after)
-      ∙ ap (λ (u : List Token). expand w k before ++ (u ++ expand w k after)) (put-same w (expanded_name w k) t h);
-  replaced = λ before after r n e. flat_map-append (put w (expanded_name w (suc k))) before (Name r ∷ after)
-      ∙ ap
-      (λ (o : Option NameId). expand w (suc k) before
-      ++ (option_map_or (expanded_name w (suc k)) o [] ++ expand w (suc k) after))
-      e;
+  kept = grind (arith, flat_map-append, put-same);
+  replaced = grind (arith, flat_map-append);
 }
 
 -- Names that pass a test have equal lists.
@@ -159,9 +154,7 @@ list-whole : (s : Setting) (l : Option Token) (bytes : List ℕ) (ts : List Toke
     → is_whole_lines (bytes ++ print_after (file_token_bytes s) l ts) ≡ true
 list-whole s l bytes [] h k = ap is_whole_lines (append-nil bytes) ∙ h k
 list-whole s l bytes (t ∷ ts) h k =
-    ap is_whole_lines (sym
-    (append_assoc bytes (sep l t ++ file_token_bytes s l t) (print_after (file_token_bytes s) (Some t) ts)))
-    ∙ list-whole s (Some t) (bytes ++ (sep l t ++ file_token_bytes s l t)) ts (token-whole s l bytes t h) k
+    grind (arith, append_assoc, token-whole, list-whole s (Some t) (bytes ++ (sep l t ++ file_token_bytes s l t)) ts)
 
 pub files_have_whole_lines : (s : Setting) (ts : List Token) → is_whole_lines (file s ts) ≡ true
 files_have_whole_lines s ts = cases (starts_line (left_after ts)) refl

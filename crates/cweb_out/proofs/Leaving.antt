@@ -18,9 +18,8 @@ work-passed w {n} {fs} {f} g ts h s =
     let before : work_of w (names w) fs ≡ list_work w k (suffix w f) + work_of w (names w) below =
     ap (work_of w (names w)) (top_read h) ∙ work_of-push w (names w) below f in
     let after : work_of w (names w) (set fs (n - 1) g) ≡ list_work w k (suffix w g) + work_of w (names w) below =
-    ap (work_of w (names w)) (top_written g h) ∙ work_of-push w (names w) below g in
-    let apart : sum_by step (suffix w f) ≡ sum_by step ts + sum_by step (suffix w g) =
-    ap (sum_by step) s ∙ sum_by-append step ts (suffix w g) in
+    grind (arith, top_written, work_of-push) in
+    let apart : sum_by step (suffix w f) ≡ sum_by step ts + sum_by step (suffix w g) = grind (arith, sum_by-append) in
     omega (arith, before, after, apart)
 
 -- The top frame passed tokens and took a use.

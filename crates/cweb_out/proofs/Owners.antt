@@ -56,11 +56,8 @@ top_rank-push w above (g ∷ fs) f = top_rank-push w (rank w g.owner) fs f
 pub AreOwned-push : {w : Stored} (above : ℕ) (fs : List Frame) {f : Frame} → OnTop w above fs f
     → AreOwned w above (fs ++ f ∷ [])
 AreOwned-push above [] t = (t.owned, t.lower, tt)
-AreOwned-push {w} above (g ∷ fs) t = (
-  t.below.0,
-  t.below.1,
-  AreOwned-push (rank w g.owner) fs (record { below = t.below.2; owned = t.owned; lower = t.lower }),
-)
+AreOwned-push {w} above (g ∷ fs) t =
+    grind (arith, AreOwned-push (rank w g.owner) fs (record { below = t.below.2; owned = t.owned; lower = t.lower }))
 
 pub AreOwned-pop : {w : Stored} (above : ℕ) (fs : List Frame) {f : Frame} → AreOwned w above (fs ++ f ∷ [])
     → OnTop w above fs f
@@ -76,10 +73,8 @@ pub OnTop-next : {w : Stored} {above : ℕ} {fs : List Frame} {f g : Frame} (t :
     → FrameIsWithin w g → g.owner ≡ f.owner → OnTop w above fs f
     → OnTop w above fs g × list_all (ends_below w (rank w g.owner)) (use_of w t) ≡ true
 OnTop-next {w} {above} {fs} {g} t s i o h =
-    let list : root_list w g.owner ≡ h.owned.yielded ++ (t ∷ suffix w g) =
-    ap (root_list w) o ∙ h.owned.list ∙ ap (λ (ts : List Token). h.owned.yielded ++ ts) s in
-    let ends : list_ends w (root_list w g.owner) ≡ true =
-    ap (λ (p : Option NameId). list_ends w (root_list w p)) o ∙ h.owned.ends in
+    let list : root_list w g.owner ≡ h.owned.yielded ++ (t ∷ suffix w g) = grind arith in
+    let ends : list_ends w (root_list w g.owner) ≡ true = grind arith in
     let test : NameId → Bool = ends_below w (rank w g.owner) in
     let split : list_all test (uses w h.owned.yielded ++ (use_of w t ++ uses w (suffix w g))) ≡ true =
     ap (list_all test) (sym (ap (uses w) list ∙ uses-append w h.owned.yielded (t ∷ suffix w g)))

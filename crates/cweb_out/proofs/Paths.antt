@@ -1,5 +1,5 @@
 -- Paths of waiting names, each used by the one before it.
-use Rattle.cweb_out.proofs.Common.{◌≡◌, Bool, true, false, ◌||◌, List, [], ◌∷◌, ◌++◌, refl, sym, ◌∙◌, ap, inl, inr, append-nil, append_assoc, Option, Some, None, list_any, list_any-append, NameId, id, is_id, Stored, joined, has_rank, FrameIsWithin, AreNew, ◌⊎◌, eqb_tells, Waiting}
+use Rattle.cweb_out.proofs.Common.{◌≡◌, Bool, true, false, ◌||◌, List, [], ◌∷◌, ◌++◌, refl, sym, ◌∙◌, ap, inl, inr, append-nil, append_assoc, Option, Some, None, list_any, list_any-append, NameId, is_id, Stored, joined, has_rank, FrameIsWithin, AreNew, ◌⊎◌, eqb_tells, Waiting, arith}
 use Rattle.cweb_out.specs.inner.Search.{PathIsWithin, PathBegins, Chain, IsScanned, path_of}
 use Rattle.cweb_out.proofs.ScannedUses.{looked-on}
 
@@ -49,13 +49,10 @@ new-push seen (m ∷ ns) n a h =
 pub new-pop : (seen ns : List NameId) (n : NameId) → AreNew seen (ns ++ n ∷ [])
     → AreNew seen ns × (list_any (is_id n) (seen ++ ns) ≡ false)
 new-pop seen [] n a = (tt, ap (list_any (is_id n)) (append-nil seen) ∙ a.0)
-new-pop seen (m ∷ ns) n a =
-    let r = new-pop (seen ++ m ∷ []) ns n a.1 in
-    ((a.0, r.0), ap (list_any (is_id n)) (sym (append_assoc seen (m ∷ []) ns)) ∙ r.1)
+new-pop seen (m ∷ ns) n a = grind (arith, append_assoc, new-pop (seen ++ m ∷ []) ns n a.1)
 
 pub is-same : (n m : NameId) → is_id n m ≡ true → n ≡ m
-is-same n m h =
-    elim (eqb_tells n.0 m.0) [ inl e ↦ ap id e.1 | inr e ↦ let bad : true ≡ false = sym h ∙ e.0 in cc ]
+is-same n m h = grind (arith, eqb_tells)
 
 pub on-pushed : (ns : List NameId) (n m : NameId)
     → list_any (is_id n) (ns ++ m ∷ []) ≡ (list_any (is_id n) ns || (is_id n m || false))

@@ -1,5 +1,5 @@
 -- The expected plan, from the search results.
-use Rattle.cweb_out.proofs.Common.{◌≡◌, ◌<◌, ◌+◌, ℕ, true, false, not, ◌&&◌, List, [], ◌∷◌, ◌++◌, sym, ◌∙◌, ap, length, take, get_or, Option, Some, None, map, Ok, Err, find, list_all, take_more, NameId, Stored, cycle_from, is_good_name, output_name, output_of, start_of, false_from_ne_true}
+use Rattle.cweb_out.proofs.Common.{◌≡◌, ◌<◌, ◌+◌, ℕ, true, false, not, ◌&&◌, List, [], ◌∷◌, ◌++◌, sym, ◌∙◌, ap, length, take, get_or, Option, Some, None, map, Ok, Err, find, list_all, take_more, NameId, Stored, cycle_from, is_good_name, output_name, output_of, start_of, false_from_ne_true, arith}
 use Rattle.std.specs.Prelude.{option_map}
 use Rattle.std.specs.List.{after_last}
 use Rattle.std.specs.Str.{IsUtf8, is_utf8}
@@ -49,7 +49,4 @@ bad-utf8 w main root bytes e n = ap (λ b. not (is_good_name b)) (sym e)
 
 pub good-name : (w : Stored) (main : List ℕ) (root : Option NameId) (bytes : List ℕ)
     → bytes ≡ output_name w main root → IsUtf8 bytes → is_good_path bytes ≡ true → is_bad w main root ≡ false
-good-name w main root bytes e u g =
-    ap (λ b. not (is_good_name b)) (sym e)
-    ∙ ap (λ b. not ((b && list_all (λ x. not (is_control x)) bytes) && not (names_no_file (after_last is_slash bytes))))
-    (is_utf8-from_IsUtf8 bytes u) ∙ ap not g
+good-name w main root bytes e u g = grind (arith, is_utf8-from_IsUtf8)

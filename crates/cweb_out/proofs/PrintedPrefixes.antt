@@ -1,5 +1,5 @@
 -- Prefixes of the remaining tokens that were printed in order.
-use Rattle.cweb_out.proofs.Common.{◌≡◌, ◌++◌, ◌∙◌, [], refl, sym, ap, subst, append_assoc, ℕ, List, ◌&&◌, list_all, Stored, Token, Setting, print, AreDirect, is_direct, setting_of, PrintsPrefix}
+use Rattle.cweb_out.proofs.Common.{◌≡◌, ◌++◌, ◌∙◌, [], refl, sym, ap, subst, append_assoc, ℕ, List, ◌&&◌, list_all, Stored, Token, Setting, print, AreDirect, is_direct, setting_of, PrintsPrefix, arith}
 use Rattle.std.proofs.lemmas.List.Folds.{list_all-append}
 use Rattle.cweb_print.specs.surface.Printed.{left_after_tokens}
 use Rattle.cweb_print.specs.declared.printer.Printer.{Printer}
@@ -22,8 +22,7 @@ prefix_more {p} {c} {old} {mid} {new} same f g =
     let s = setting_of p in
     record {
       done = f.done ++ g.done;
-      whole =
-          f.whole ∙ ap (λ (ts : List Token). f.done ++ ts) g.whole ∙ sym (append_assoc f.done g.done c);
+      whole = grind (arith, append_assoc);
       direct = are_borrowed-append f.done g.done f.direct g.direct;
       moves = λ done is.
           ap left_after_tokens (sym (append_assoc done f.done g.done)) ∙ g.moves (done ++ f.done) (f.moves done is);
@@ -33,10 +32,8 @@ prefix_more {p} {c} {old} {mid} {new} same f g =
           (print t ((done ++ f.done) ++ g.done)) mid new) same (g.prints (done ++ f.done) (f.moves done is)) in
           record {
             bytes = one.bytes ++ two.bytes;
-            expected = ap (print s) (sym (append_assoc done f.done g.done)) ∙ two.expected
-                ∙ ap (λ (u : List ℕ). u ++ two.bytes) one.expected ∙ append_assoc (print s done) one.bytes two.bytes;
-            written = two.written ∙ ap (λ (u : List ℕ). u ++ two.bytes) one.written
-                ∙ append_assoc old one.bytes two.bytes;
+            expected = grind (arith, append_assoc);
+            written = grind (arith, append_assoc);
           };
     }
 
@@ -52,9 +49,4 @@ prefix_of a b f whole = record { done = f.done; whole = whole; direct = f.direct
 
 pub frame_more : {w : Stored} {a b c : Frame} {p q r : Printer} {x y z : List ℕ} → PrintsFrame w a b p q x y
     → PrintsFrame w b c q r y z → PrintsFrame w a c p r x z
-frame_more first then = record {
-  owner = then.owner ∙ first.owner;
-  within = then.within;
-  setting = then.setting ∙ first.setting;
-  prints = prefix_more first.setting first.prints then.prints;
-}
+frame_more first then = grind (arith, prefix_more)

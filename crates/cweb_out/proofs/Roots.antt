@@ -1,5 +1,5 @@
 -- In a plan, the names that an output's list uses have ranks.
-use Rattle.cweb_out.proofs.Common.{ends_below, list_all, ◌≡◌, ◌<◌, ℕ, zero, suc, Bool, true, false, not, List, [], ◌∷◌, refl, sym, ◌∙◌, ap, Option, Some, None, map, length, arith, cond, slice_index_or, Result, Ok, Err, find, bytes_eq, get_or-map, length-map, Stored, names, uses, list_ends, Output, Planned, Refusal, bad_name, same_name, cycle, outputs, root_list, output_of, output_name, name_spelling, is_good_name, planned_apart, planned_ending, has_no_program, start_of, root_at, IsPlanOf, cycle_from}
+use Rattle.cweb_out.proofs.Common.{ends_below, list_all, ◌≡◌, ◌<◌, ℕ, zero, suc, Bool, true, false, not, List, [], ◌∷◌, refl, Option, Some, None, map, length, arith, cond, slice_index_or, Result, Ok, Err, find, bytes_eq, get_or-map, length-map, Stored, names, uses, list_ends, Planned, Refusal, bad_name, same_name, cycle, outputs, root_list, output_of, output_name, name_spelling, is_good_name, planned_apart, planned_ending, has_no_program, start_of, root_at, IsPlanOf, cycle_from}
 use Rattle.cweb_names.specs.Names as spec
 
 abbrev outcome : {A : Type 0} → Option A → (A → Refusal) → Result Planned Refusal → Result Planned Refusal
@@ -36,10 +36,6 @@ root_below w p number made lt =
     unrefused (find (λ o. not (list_ends w (root_list w o))) (outputs w)) (λ o. cycle (cycle_from w (start_of w o)))
     (Ok (record { outputs = map (output_of w main) (outputs w); no_text = has_no_program w })) p ending.1 in
     let are : map (output_of w main) (outputs w) ≡ p.outputs = cc (ends.1) in
-    let within : number < length (outputs w) =
-    omega (arith, lt, ap length are, length-map (outputs w) (output_of w main)) in
-    let root : root_at p.outputs number ≡ slice_index_or (outputs w) number None =
-    ap (λ (os : List Output). root_at os number) (sym are)
-    ∙ ap (λ (o : Output). o.root)
-    (get_or-map (output_of w main) (outputs w) number None (record { name = []; root = None }) within) in
+    let within : number < length (outputs w) = grind (arith, length-map) in
+    let root : root_at p.outputs number ≡ slice_index_or (outputs w) number None = grind (arith, get_or-map) in
     rw root (found_none (λ o. list_ends w (root_list w o)) (outputs w) number None ends.0 within)

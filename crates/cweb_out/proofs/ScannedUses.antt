@@ -1,8 +1,8 @@
 -- The progress of the search in a list: skipped uses, up to the next name without a rank.
-use Rattle.cweb_out.proofs.Common.{◌≡◌, ◌<◌, Bool, true, false, ◌&&◌, List, [], ◌∷◌, ◌++◌, refl, sym, ◌∙◌, ap, append-nil, append_assoc, Some, None, list_all, NameId, Token, Stored, names, uses, use_of, has_rank, suffix, Frame, and_parts, PassesNoUse, Waiting}
+use Rattle.cweb_out.proofs.Common.{◌≡◌, ◌<◌, Bool, true, false, ◌&&◌, List, [], ◌∷◌, ◌++◌, refl, sym, ◌∙◌, ap, append-nil, append_assoc, Some, None, list_all, NameId, Token, Stored, names, uses, use_of, has_rank, suffix, Frame, and_parts, PassesNoUse, Waiting, arith}
 use Rattle.cweb_out.specs.declared.outputs.search.Mark.{Mark}
 use Rattle.cweb_out.specs.declared.outputs.search.Mark.TheVariants.{Ranked}
-use Rattle.cweb_out.specs.inner.Search.{MarksFitPath, IsScanned, FindsUnranked, is_marked, is_ranked_mark, mark_of}
+use Rattle.cweb_out.specs.inner.Search.{MarksFitPath, IsScanned, FindsUnranked, is_marked, is_ranked_mark}
 use Rattle.cweb_out.proofs.FirstUses.{same-uses}
 use Rattle.cweb_out.proofs.Ranks.{all-append}
 
@@ -32,18 +32,11 @@ passes-on {w} p x = record {
 pub meets : {w : Stored} {marks : List Mark} {old mid new : List Token} (t : Token) {n : NameId}
     → SkipsRanked w marks old mid → mid ≡ t ∷ new → n ∷ [] ≡ use_of w t
     → is_marked marks n ≡ false → n.0 < names w → FindsUnranked w marks old n new
-meets {w} {new} t p e u f l = record {
-  before = p.before;
-  marked = p.marked;
-  same = p.same ∙ ap (λ ts. p.before ++ uses w ts) e ∙ ap (λ ns. p.before ++ (ns ++ uses w new)) (sym u);
-  unranked = f;
-  name = l;
-}
+meets {w} {new} t p e u f l = grind arith
 
 pub passes-all : {w : Stored} {marks : List Mark} {old new : List Token}
     → SkipsRanked w marks old new → uses w new ≡ [] → list_all (is_marked marks) (uses w old) ≡ true
-passes-all {marks} p e =
-    ap (list_all (is_marked marks)) (p.same ∙ ap (λ ns. p.before ++ ns) e ∙ append-nil p.before) ∙ p.marked
+passes-all {marks} p e = grind (arith, append-nil)
 
 -- A ranked mark means that the name has a rank.
 marked-rank : (m : Mark) (b : Bool) → (m ≡ Ranked → b ≡ true) → is_ranked_mark m ≡ true → b ≡ true
@@ -53,9 +46,7 @@ marked-rank _ b f h = cc
 pub all-ranked : {w : Stored} {marks : List Mark} {path : List Waiting} (ns : List NameId)
     → MarksFitPath w marks path → list_all (is_marked marks) ns ≡ true → list_all (has_rank w) ns ≡ true
 all-ranked [] f h = refl
-all-ranked {w} {marks} {path} (n ∷ ns) f h = ap (λ b. b && list_all (has_rank w) ns) (marked-rank (mark_of marks n)
-    (has_rank w n) (f.ranked n) (and_parts (is_marked marks n) (list_all (is_marked marks) ns) h).0)
-    ∙ all-ranked ns f (and_parts (is_marked marks n) (list_all (is_marked marks) ns) h).1
+all-ranked {w} {marks} {path} (n ∷ ns) f h = grind (arith, marked-rank, and_parts, all-ranked ns f)
 
 -- A list was scanned up to a name, and then up to the next one.
 pub looked-more : {w : Stored}
@@ -81,8 +72,7 @@ looked-on {w} {frame} n h l = record {
 pub looked-all : {w : Stored} {list : List Token} {frame : Frame} {marks : List Mark} {path : List Waiting}
     → MarksFitPath w marks path → IsScanned w list frame None
     → list_all (is_marked marks) (uses w (suffix w frame)) ≡ true → list_all (has_rank w) (uses w list) ≡ true
-looked-all {w} {frame} f l h = ap (list_all (has_rank w)) l.same
-    ∙ all-append (has_rank w) l.before (uses w (suffix w frame)) l.ranked (all-ranked (uses w (suffix w frame)) f h)
+looked-all {w} {frame} f l h = grind (arith, all-append, all-ranked)
 
 pub looked-start : {w : Stored} {list : List Token} {frame : Frame} → suffix w frame ≡ list
     → IsScanned w list frame None

@@ -54,8 +54,7 @@ pub goes-on : {w : Stored} {marks more : List Mark} (path : List Waiting) {mid a
     (f g : Waiting) {n : NameId} → MarksFitPath w marks (path ++ f ∷ []) → Chain w (path ++ f ∷ []) None
     → g.name ≡ f.name → FrameIsWithin w g.text → FindsUnranked w marks (suffix w f.text) n (suffix w g.text)
     → mid ≡ path ++ g ∷ [] → Waited w marks mid n more after → Goes w marks (path ++ f ∷ []) more after None
-goes-on {w} path {after} f g {n} t c e i m p x =
-    grind (arith, chain-pop, looked-more, chain-push, begins-more, begins-push)
+goes-on path f g t c e i m p x = grind (arith, chain-pop, looked-more, chain-push, begins-more, begins-push)
 
 -- The list of an output.
 uses-defs : (w : Stored) (b : Bool) (ts : List Token) → uses w (defs_first b ++ ts) ≡ uses w ts

@@ -1,5 +1,5 @@
 -- The model and invariant of a stack under push and pop.
-use Rattle.cweb_out.proofs.Common.{◌≡◌, ◌≤◌, ◌+◌, ◌-◌, ℕ, [], ◌∷◌, ◌++◌, List, length, sym, ◌∙◌, ap, arith, append_assoc, append-nil, length-append, sum_by, sum_by-cons, Token, Stored, names, expand, expanded_name, put, Frame, suffix, left_at_depth, work_of, list_work, IsFrameStack, UsesLower, Advances, left, level, name_work, token_work}
+use Rattle.cweb_out.proofs.Common.{◌≡◌, ◌≤◌, ◌+◌, ◌-◌, ℕ, [], ◌∷◌, ◌++◌, List, length, sym, ◌∙◌, ap, arith, append_assoc, append-nil, length-append, sum_by, sum_by-cons, Token, Stored, names, expand, Frame, suffix, left_at_depth, work_of, list_work, IsFrameStack, UsesLower, Advances, left, level, name_work, token_work}
 use Rattle.cweb_out.proofs.Owners.{OnTop, AreOwned-pop, AreOwned-push}
 
 pub left_of-push : (w : Stored) (k : ℕ) (fs : List Frame) (f : Frame)
@@ -38,18 +38,12 @@ advances {w} fs {new} f g {t} e m s u is =
     let l : names w - length fs ≡ level w new = sym (ap (level w) is ∙ level-push w fs g) in
     let p = work_of-push w (names w) fs f in
     let q : work_of w (names w) new ≡ list_work w k (suffix w g) + work_of w (names w) fs =
-    ap (work_of w (names w)) is ∙ work_of-push w (names w) fs g in
+    grind (arith, work_of-push) in
     let v : list_work w k (suffix w f) ≡ token_work w (name_work w k) t + list_work w k (suffix w g) =
     ap (list_work w k) s ∙ list_work-first w k t (suffix w g) in
-    let x : token_work w (name_work w k) t ≡ token_work w (name_work w (level w new)) t =
-    ap (λ n. token_work w (name_work w n) t) l in
+    let x : token_work w (name_work w k) t ≡ token_work w (name_work w (level w new)) t = grind arith in
     record {
-      left =
-          e ∙ left_of-push w (names w) fs f ∙ ap (λ ts. expand w k ts ++ left w fs) s
-          ∙ append_assoc (put w (expanded_name w k) t) (expand w k (suffix w g)) (left w fs)
-          ∙ ap (λ ts. put w (expanded_name w k) t ++ ts) (sym (left_of-push w (names w) fs g))
-          ∙ ap (λ fs. put w (expanded_name w k) t ++ left w fs) (sym is)
-          ∙ ap (λ n. put w (expanded_name w n) t ++ left w new) l;
+      left = grind (arith, left_of-push, append_assoc);
       lower = u;
       work = omega (arith, p, q, v, x, m);
       some = omega (arith, ap length is, length-append fs (g ∷ []));

@@ -1,5 +1,5 @@
 -- The model of a stack after a use of a name, and after one that expands to nothing.
-use Rattle.cweb_out.proofs.Common.{true, ends_below, list_all, ◌≡◌, ◌+◌, ◌-◌, ℕ, suc, [], ◌∷◌, ◌++◌, List, length, refl, sym, ◌∙◌, ap, arith, Some, false, All, NameId, NameRef, Part, Name, all_tokens, Stored, names, uses, resolved_use, joined, expand, expanded_name, put, option_map_or, root_list, Frame, suffix, tokens_of_parts, work_of, list_work, PartIsWithin, FrameIsWithin, IsFrameStack, UsesLower, Enters, left, level, name_work, token_work, work_for}
+use Rattle.cweb_out.proofs.Common.{true, ends_below, list_all, ◌≡◌, ◌+◌, ◌-◌, ℕ, suc, [], ◌∷◌, ◌++◌, List, length, refl, sym, ◌∙◌, ap, arith, Some, false, All, NameId, NameRef, Part, Name, all_tokens, Stored, names, uses, resolved_use, joined, expand, expanded_name, put, root_list, Frame, suffix, tokens_of_parts, work_of, list_work, PartIsWithin, FrameIsWithin, IsFrameStack, UsesLower, Enters, left, level, name_work, token_work}
 use Rattle.cweb_out.proofs.Owners.{OnTop-entered, OnTop-first, room-above}
 use Rattle.cweb_out.proofs.Stack.{left_of-push, work_of-push, Valid-push}
 
@@ -19,18 +19,15 @@ entered {w} {fs} {new} {r} m q rest s grows lower e text a is =
     let k : ℕ = names w - length fs in
     let deeper : level w fs ≡ suc k = omega (arith, room-above w fs r m s.owned lower e) in
     let within : FrameIsWithin w g = record { part = a 0 q (omega arith); rest = λ i x l. a (suc i) x (omega arith) } in
-    let one : put w (expanded_name w (level w fs)) (Name r) ≡ expand w k (joined w m) =
-    ap (λ o. option_map_or (expanded_name w (level w fs)) o []) e ∙ ap (λ n. expanded_name w n m) deeper in
-    let two : token_work w (name_work w (level w fs)) (Name r) ≡ 1 + list_work w k (joined w m) =
-    ap (λ o. 1 + work_for (name_work w (level w fs)) o) e ∙ ap (λ n. 1 + name_work w n m) deeper in
+    let one : put w (expanded_name w (level w fs)) (Name r) ≡ expand w k (joined w m) = grind arith in
+    let two : token_work w (name_work w (level w fs)) (Name r) ≡ 1 + list_work w k (joined w m) = grind arith in
     let three : work_of w (names w) new ≡ list_work w k (suffix w g) + work_of w (names w) fs =
-    ap (work_of w (names w)) is ∙ work_of-push w (names w) fs g in
+    grind (arith, work_of-push) in
     let four : list_work w k (suffix w g) ≡ list_work w k (joined w m) = ap (list_work w k) text in
     record {
       valid = Valid-push is (grows ∙ s.room) (OnTop-entered r m s.owned lower e within refl (sym text));
       enters = record {
-        left = ap (left w) is ∙ left_of-push w (names w) fs g ∙ ap (λ ts. expand w k ts ++ left w fs) text
-            ∙ ap (λ ts. ts ++ left w fs) (sym one);
+        left = grind (arith, left_of-push);
         work = omega (arith, two, three, four);
       };
     }

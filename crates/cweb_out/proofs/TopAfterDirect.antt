@@ -1,5 +1,5 @@
 -- The top frame of a stack passes direct tokens.
-use Rattle.cweb_out.proofs.Common.{◌≡◌, ◌-◌, ◌++◌, ◌∷◌, [], ℕ, List, length, sym, ◌∙◌, ap, append_assoc, set, Token, Stored, names, expand, expanded_name, root_list, Frame, suffix, left, FrameIsWithin, IsFrameStack, AreDirect}
+use Rattle.cweb_out.proofs.Common.{◌≡◌, ◌-◌, ◌++◌, ◌∷◌, [], ℕ, List, length, sym, ◌∙◌, ap, append_assoc, set, Token, Stored, names, expand, expanded_name, Frame, suffix, left, FrameIsWithin, IsFrameStack, AreDirect, arith}
 use Rattle.cweb_out.proofs.Owners.{OnTop}
 use Rattle.cweb_out.proofs.DirectExpansion.{put-all-direct}
 use Rattle.cweb_out.proofs.Stack.{Valid-push, left_of-push}
@@ -12,8 +12,7 @@ OnTop-passed {w} {above} {fs} {g} ts s i o h = record {
   owned = record {
     within = i;
     yielded = h.owned.yielded ++ ts;
-    list = ap (root_list w) o ∙ h.owned.list ∙ ap (λ (us : List Token). h.owned.yielded ++ us) s
-        ∙ sym (append_assoc h.owned.yielded ts (suffix w g));
+    list = grind (arith, append_assoc);
     ends = rw o h.owned.ends;
   };
   lower = rw o h.lower;

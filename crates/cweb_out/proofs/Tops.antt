@@ -43,8 +43,7 @@ top_moved {w} {n} {old} {fs} {f} {g} {t} s e m h goes i o =
     let after : set fs (n - 1) g ≡ lower n fs ++ g ∷ [] = top_written g h in
     let p = valid_lower s h in
     let v = OnTop-next t goes i o p.1 in
-    let top : top_rank w (names w + 1) (set fs (n - 1) g) ≡ rank w g.owner =
-    ap (top_rank w (names w + 1)) after ∙ top_rank-push w (names w + 1) (lower n fs) g in
+    let top : top_rank w (names w + 1) (set fs (n - 1) g) ≡ rank w g.owner = grind (arith, top_rank-push) in
     record {
       valid = Valid-push after s.room v.0;
       advances = advances (lower n fs) f g (e ∙ ap (left w) both) (rw (← (ap (work_of w (names w)) both)) m)

@@ -1,5 +1,5 @@
 -- The marks of names when they start to wait and get their rank.
-use Rattle.cweb_out.proofs.Common.{◌≡◌, ◌<◌, true, false, ◌||◌, List, [], ◌∷◌, ◌++◌, sym, ◌∙◌, ap, arith, length, inl, inr, subst, sum_by, list_any, set, get_or-set_same, length-set, NameId, is_id, Stored, names, joined, has_rank, FrameIsWithin, suffix, AreNew, false_from_ne_true, or_left, or_right, id, eqb_tells, Waiting}
+use Rattle.cweb_out.proofs.Common.{◌≡◌, ◌<◌, true, false, List, [], ◌∷◌, ◌++◌, sym, ◌∙◌, ap, arith, length, inl, inr, subst, sum_by, list_any, set, get_or-set_same, length-set, NameId, is_id, Stored, names, joined, has_rank, FrameIsWithin, suffix, AreNew, id, eqb_tells, Waiting}
 use Rattle.std.proofs.Common.{◌≢◌}
 use Rattle.std.proofs.lemmas.List.{get_or-set_other, get_or_past}
 use Rattle.std.proofs.lemmas.List.Sums.{sum_by-set}
@@ -26,39 +26,7 @@ pub fits-push : {w : Stored} {marks : List Mark} {path : List Waiting} (f : Wait
     → MarksFitPath w marks path → mark_of marks f.name ≡ Unseen → f.name.0 < names w
     → FrameIsWithin w f.text → MarksFitPath w (set marks f.name.0 Waits) (path ++ f ∷ [])
 fits-push {marks} {path} f t u l i =
-    let lt : f.name.0 < length marks = omega (arith, l, t.all) in
-    let absent : list_any (is_id f.name) (path_of path) ≡ false =
-    false_from_ne_true (list_any (is_id f.name) (path_of path))
-    (λ h. let bad : Unseen ≡ Waits = sym u ∙ t.marked f.name h in cc) in
-    record {
-      all = length-set marks f.name.0 Waits ∙ t.all;
-      ranked = λ n h. elim (eqb_tells n.0 f.name.0) [
-        | inl e ↦
-            let bad : Waits ≡ Ranked =
-            sym (mark-same marks f.name Waits lt)
-            ∙ ap (mark_of (set marks f.name.0 Waits)) (sym (ap id e.1)) ∙ h in
-            cc
-        | inr e ↦ t.ranked n (sym (mark-other marks f.name n Waits e.1) ∙ h)
-      ];
-      waits = λ n h. ap (list_any (is_id n)) (path-push path f)
-          ∙ on-pushed (path_of path) n f.name ∙ elim (eqb_tells n.0 f.name.0) [
-            | inl e ↦ or_right (list_any (is_id n) (path_of path)) (is_id n f.name || false)
-                (or_left (is_id n f.name) false e.0)
-            | inr e ↦ or_left (list_any (is_id n) (path_of path)) (is_id n f.name || false)
-                (t.waits n (sym (mark-other marks f.name n Waits e.1) ∙ h))
-          ];
-      marked = λ n h. elim (eqb_tells n.0 f.name.0) [
-        | inl e ↦ ap (mark_of (set marks f.name.0 Waits)) (ap id e.1) ∙ mark-same marks f.name Waits lt
-        | inr e ↦ mark-other marks f.name n Waits e.1
-            ∙ t.marked n (elim (split-or (list_any (is_id n) (path_of path)) (is_id n f.name)
-            (sym (on-pushed (path_of path) n f.name) ∙ ap (list_any (is_id n)) (sym (path-push path f)) ∙ h)) [
-              | inl a ↦ a
-              | inr b ↦ let bad : true ≡ false = sym b ∙ e.0 in cc
-            ])
-      ];
-      new = subst (AreNew []) (sym (path-push path f)) (new-push [] (path_of path) f.name t.new absent);
-      within = within-push path f t.within i;
-    }
+    grind (arith, length-set, eqb_tells, mark-same, mark-other, path-push, on-pushed, new-push, within-push)
 
 -- The last waiting name gets its rank.
 pub fits-pop : {w : Stored} {marks : List Mark} {path : List Waiting} (f : Waiting)

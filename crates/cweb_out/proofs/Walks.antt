@@ -17,8 +17,7 @@ walks : (w : Stored) (seen : List NameId) (path : List Waiting) (again : NameId)
 walks w seen [] again k le c a h e = grind (arith, seen, append-nil, joined)
 walks w seen (f ∷ path) again zero le c a h e = absurd (omega (arith, le))
 walks w seen (f ∷ path) again (suc k) le c a h e =
-    let s : (seen ++ f.name ∷ []) ++ path_of path ≡ seen ++ path_of (f ∷ path) =
-    append_assoc seen (f.name ∷ []) (path_of path) in
+    let s : (seen ++ f.name ∷ []) ++ path_of path ≡ seen ++ path_of (f ∷ path) = grind (arith, append_assoc) in
     let n = next-some path again in
     let endless = e n.0
     (elim (next-on path again n.0 n.1) [
@@ -52,8 +51,7 @@ pub path-cycle : {w : Stored} {marks : List Mark} (path : List Waiting) {start :
 path-cycle [] again t c a b = cc
 path-cycle {w} (f ∷ path) {start} again t c a b =
     let none = chain-endless w (f ∷ path) again c a in
-    let on : list_any (is_id start) (path_of (f ∷ path)) ≡ true =
-    or_left (is_id start f.name) (list_any (is_id start) (path_of path)) (ap (is_id start) b ∙ id-same start) in
+    let on : list_any (is_id start) (path_of (f ∷ path)) ≡ true = grind (arith, or_left, id-same) in
     let size : length (path_of (f ∷ path)) ≡ length (f ∷ path) = length-map (f ∷ path) (λ (g : Waiting). g.name) in
     let le = few (names w) (path_of (f ∷ path)) t.new (λ n h. top-name n t h) in
     let fits : length (f ∷ path) ≤ names w = omega (arith, le, size) in

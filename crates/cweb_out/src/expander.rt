@@ -80,7 +80,7 @@ impl<'a> Expander<'a> {
         self.frames.len() as u32
     }
 
-    /// The next token, which is never a use of a name. After the first `None` it stays `None`. Allocates nothing.
+    /// The next token. Each use is replaced by its name's C text. After `None` it stays `None`. Allocates nothing.
     #[inline(always)]
     pub fn next(&mut self) -> Option<Token<'a>>
         requires { IsReady self.old }

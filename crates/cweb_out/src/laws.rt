@@ -7,7 +7,7 @@ ghost use Rattle.cweb_out.specs.laws.Laws.{PrintGoesOn, RanksAreBelowTheNames};
 ghost use Rattle.cweb_out.specs.laws.Laws.{RefusedCyclesAreCycles};
 
 /// Uses are replaced and other tokens stay, in order. From the ranks of its names on, the depth of a list's expansion
-/// changes nothing. A refused plan names a cycle.
+/// changes nothing. Ranks are below the number of names. A refused plan names a cycle of at least two names.
 pub fn expansion()
     ensures replaces_uses_alone { ExpansionReplacesUsesAlone }
     ensures depth_above_the_rank { DepthAboveTheRankChangesNothing }

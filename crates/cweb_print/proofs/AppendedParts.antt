@@ -1,4 +1,5 @@
 -- Strings that are written part by part.
+use Rattle.std.proofs.Common.{arith}
 use Rattle.cweb_print.proofs.Common.{ap, ◌≡◌, ◌<◌, ◌+◌, ◌++◌, [], ◌∙◌, refl, sym, append_assoc, append-nil, ℕ, List, length, take, drop, suc, get_or, Result, IsErr, flat_map, FailsWithin, SinkModel, Wrote, written}
 use Rattle.cweb_files.proofs.JoinedParts.{flat_at, flat_more}
 use Rattle.cweb_files.proofs.Appending.{fails_then, written_none, written_then, wrote_same, wrote_then, wrote_until}
@@ -58,6 +59,4 @@ second_until a b c text first part rest r is whole one =
 
 pub three_then : {C G : Type 0} (a b c d : SinkModel) (text first part last : List ℕ) (r : Result C G)
     → text ≡ first ++ (part ++ last) → b ≡ written first a → c ≡ written part b → Wrote last c d r → Wrote text a d r
-three_then a b c d text first part last r whole one two three =
-    wrote_same (first ++ (part ++ last)) text a d r (sym whole)
-    (wrote_then first (part ++ last) a b d r one (wrote_then part last b c d r two three))
+three_then a b c d text first part last r whole one two three = grind (arith, wrote_same, wrote_then)

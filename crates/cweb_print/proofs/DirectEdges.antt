@@ -1,5 +1,5 @@
 -- Direct tokens: their edges, classes, and the blanks before them.
-use Rattle.cweb_print.proofs.Common.{arith, ◌≡◌, ◌==◌, ◌∙◌, ℕ, Bool, true, false, cond, ◌||◌, ◌&&◌, not, List, [], ◌∷◌, Option, None, Some, refl, ap, sym, list_any, eqb-true, Token, Word, Number, Literal, Verbatim, Punct, Blank, Newline, Edge, TokenBytesModel, first_is, is_numeric, last_is, direct_bytes, punctuator_edge, punctuator_edge_by, Class, class_after_edge, edge_is_apart, class_by, class_is_glue, class_is_literal, class_is_number, class_is_operator, class_is_point, class_is_wordlike, class_of, is_apart, is_high, is_operator}
+use Rattle.cweb_print.proofs.Common.{arith, ◌≡◌, ◌==◌, ◌∙◌, ℕ, Bool, true, false, cond, ◌||◌, ◌&&◌, not, List, [], ◌∷◌, Option, None, Some, refl, ap, sym, list_any, eqb-true, Token, Word, Number, Literal, Verbatim, Punct, Blank, Newline, Edge, TokenBytesModel, first_is, is_numeric, direct_bytes, punctuator_edge, punctuator_edge_by, Class, class_after_edge, edge_is_apart, class_by, class_is_glue, class_is_literal, class_is_number, class_is_operator, class_is_point, class_is_wordlike, class_of, is_apart, is_high, is_operator}
 use Rattle.cweb_texts.specs.declared.edges.Edge.TheVariants as edge_kind
 use Rattle.cweb_print.specs.declared.printer.class.Class.TheVariants as class
 
@@ -25,8 +25,7 @@ class-direct (Word b) l h = ap class_after_edge (edge_of_class b edge_kind.Word 
 class-direct (Number b) l h = ap (λ o. class_after_edge (edge_in o)) (sym h)
 class-direct (Literal b) l h = ap (λ o. class_after_edge (edge_in o)) (sym h)
 class-direct (Verbatim b) l h = ap (λ o. class_after_edge (edge_in o)) (sym h)
-class-direct (Punct b) l h = ap class_after_edge (edge_of_class b (punctuator_edge b) l (list_any is_high b) h)
-    ∙ sign-class (first_is is_numeric b) (first_is is_operator b) (last_is (λ x. x == 46) b) (last_is is_operator b)
+class-direct (Punct b) l h = grind (arith, edge_of_class, sign-class)
 class-direct Blank l h = ap (λ o. class_after_edge (edge_in o)) (sym h)
 class-direct Newline l h = ap (λ o. class_after_edge (edge_in o)) (sym h)
 class-direct _ l h = cc

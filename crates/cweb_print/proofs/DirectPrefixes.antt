@@ -1,5 +1,5 @@
 -- Printing of consecutive direct tokens.
-use Rattle.cweb_print.proofs.Common.{arith, ◌≡◌, ◌++◌, ◌∙◌, [], ◌∷◌, refl, sym, subst, ap, append_assoc, append-nil, ℕ, List, true, ◌&&◌, is_some, list_all, Token, TokenBytesModel, direct_bytes, print, Left, Printer, left_after_tokens, left_after_token, AreDirect, blank_where, is_direct, left_in_printer, setting_of, MovesBy, PrintsBy, second_so, Some, Edge, class_after_edge, edge_is_apart, left_after_edge}
+use Rattle.cweb_print.proofs.Common.{arith, ◌≡◌, ◌++◌, ◌∙◌, [], ◌∷◌, sym, subst, ap, append_assoc, append-nil, ℕ, List, true, ◌&&◌, is_some, list_all, Token, TokenBytesModel, direct_bytes, Left, Printer, left_after_tokens, left_after_token, AreDirect, blank_where, is_direct, left_in_printer, setting_of, MovesBy, PrintsBy, second_so, Some, Edge, class_after_edge, edge_is_apart, left_after_edge}
 use Rattle.cweb_print.proofs.DirectPrinting.{leaves-direct, print-direct}
 use Rattle.cweb_print.proofs.Steps.{leaves-push}
 
@@ -14,16 +14,7 @@ pub record Passed (p : Printer) (ts : List Token) (left : Left) (old new : List 
   pub prints : PrintsBy p ts old new
 
 pub passed_none : (p : Printer) (old : List ℕ) → Passed p [] (left_in_printer p) old old
-passed_none p old = record {
-  direct = refl;
-  moves = λ done is. ap left_after_tokens (append-nil done) ∙ is;
-  prints = λ done is. record {
-    bytes = [];
-    expected =
-        ap (print (setting_of p)) (append-nil done) ∙ sym (append-nil (print (setting_of p) done));
-    written = sym (append-nil old);
-  };
-}
+passed_none p old = grind (arith, append-nil)
 
 -- One more direct token was appended.
 pub passed_more : (p : Printer) (ts : List Token) (last : Edge) (t : Token) (l : TokenBytesModel) (old mid new : List ℕ)
@@ -42,11 +33,8 @@ passed_more p ts last t l old mid new passed h appended =
           let so_far = passed.prints done is in
           record {
             bytes = so_far.bytes ++ more;
-            expected = ap (print s) (sym (append_assoc done ts (t ∷ [])))
-                ∙ print-direct s last (done ++ ts) t l (passed.moves done is) h
-                ∙ ap (λ (u : List ℕ). u ++ more) so_far.expected ∙ append_assoc (print s done) so_far.bytes more;
-            written =
-                appended ∙ ap (λ (u : List ℕ). u ++ more) so_far.written ∙ append_assoc old so_far.bytes more;
+            expected = grind (arith, append_assoc, print-direct);
+            written = grind (arith, append_assoc);
           };
     }
 

@@ -1,4 +1,5 @@
 -- Direct tokens: the state after them, and their output.
+use Rattle.std.proofs.Common.{arith}
 use Rattle.cweb_print.proofs.Common.{◌≡◌, ◌++◌, ◌∙◌, ap, sym, refl, Bool, true, false, cond, ℕ, List, [], ◌∷◌, Option, Some, None, list_any, Token, Word, Punct, Join, Setting, print, stays_joined, word_bytes, Class, class_after_edge, left_after_edge, edge_is_apart, left_after_token, added, file_by, left_after_tokens, is_high, direct_bytes, blank_where, Edge, TokenBytesModel, punctuator_edge}
 use Rattle.cweb_texts.specs.declared.edges.Edge.TheVariants as edge_kind
 use Rattle.cweb_print.proofs.Bytes.{ascii_word}
@@ -38,8 +39,7 @@ leaves-direct c t l h = λ i. record { class = sym (class-direct t l h) i; joine
 added-direct : (s : Setting) (last : Edge) (t : Token) (l : TokenBytesModel) → direct_bytes t ≡ Some l
     → added (file_by s) (left_after_edge last) t
     ≡ blank_where (edge_is_apart (class_after_edge last) l.edge) ++ l.string
-added-direct s last t l h =
-    cc (apart-direct (class_after_edge last) t l h, file-direct s (class_after_edge last) t l h)
+added-direct s last t l h = grind (arith, apart-direct, file-direct)
 
 -- One more direct token.
 pub print-direct : (s : Setting) (last : Edge) (ts : List Token) (t : Token) (l : TokenBytesModel)

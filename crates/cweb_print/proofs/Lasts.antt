@@ -1,11 +1,11 @@
 -- The last byte of a punctuator.
-use Rattle.cweb_print.proofs.Common.{◌≡◌, ◌==◌, ◌-◌, ℕ, true, List, [], ◌∷◌, Some, ◌∙◌, ap, length, slice_get, eqb-true, is_operator, class_by, punct_class, last_is}
+use Rattle.std.proofs.Common.{rules}
+use Rattle.cweb_print.proofs.Common.{◌≡◌, ◌==◌, ◌-◌, ℕ, true, List, [], ◌∷◌, Some, ap, length, slice_get, eqb-true, is_operator, class_by, punct_class, last_is}
 use Rattle.cweb_texts.proofs.EdgeLemmas.{last_is-at}
 
 pub punct-last : (bs : List ℕ) (x : ℕ) → slice_get bs (length bs - 1) ≡ Some x
     → punct_class bs ≡ class_by (x == 46) (is_operator x)
-punct-last bs x h = ap (λ b. class_by b (last_is is_operator bs)) (last_is-at (λ x. x == 46) bs x h)
-    ∙ ap (λ b. class_by (x == 46) b) (last_is-at is_operator bs x h)
+punct-last bs x h = search (rules, last_is-at)
 
 -- A point is an operator byte.
 pub point-operator : (b : List ℕ) → last_is (λ x. x == 46) b ≡ true → last_is is_operator b ≡ true

@@ -20,10 +20,7 @@ lines_from w test [] n h = refl
 lines_from w test (p ∷ ps) n h =
     let size = length p.tokens in
     let gap : n + size - n ≡ size = omega arith in
-    let here : slice_range (all_tokens w.parts) n (n + size) ≡ p.tokens =
-    ap (λ k. take k (drop n (all_tokens w.parts))) gap
-    ∙ ap (take size) h
-    ∙ take_at p.tokens (all_tokens ps) size refl in
+    let here : slice_range (all_tokens w.parts) n (n + size) ≡ p.tokens = grind (arith, take_at) in
     let others : drop (n + size) (all_tokens w.parts) ≡ all_tokens ps = sym (drop-drop size n (all_tokens w.parts))
     ∙ ap (drop size) h
     ∙ drop_at p.tokens (all_tokens ps) size refl in

@@ -16,15 +16,12 @@ taken_after bytes used count = search (rules, between_is)
 
 pub overlapped : (before text : List ℕ) (n : ℕ) → n ≤ length text → length text ≤ n + n
     → take (length before + (length text - n)) (before ++ take n text) ++ drop (length text - n) text ≡ before ++ text
-overlapped before text n least most =
-    grind (arith, take-append-add before (take n text), taken_twice, append_assoc before, take-append-drop)
+overlapped before text n least most = grind (arith, take-append-add, taken_twice, append_assoc, take-append-drop)
 
 -- Bytes that were rotated: the suffix is now first.
 pub rest_in_prefix : (bytes : List ℕ) (used count : ℕ) → count ≤ used → used ≤ length bytes
     → take (used - count) (drop count bytes ++ take count bytes) ≡ drop count (take used bytes)
-rest_in_prefix bytes used count below within =
-    take-append-le (used - count) (drop count bytes) (take count bytes) (omega (arith, within, length-drop count bytes))
-    ∙ taken_after bytes used count
+rest_in_prefix bytes used count below within = grind (arith, take-append-le, length-drop, taken_after)
 
 -- Bytes that were overwritten by as many.
 pub whole_again : (old new : List ℕ) (count : ℕ) → length new ≡ count → take count (new ++ drop (length new) old) ≡ new

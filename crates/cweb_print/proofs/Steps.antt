@@ -1,5 +1,5 @@
 -- Printing token by token: the output of each one follows from the printer's state.
-use Rattle.cweb_print.proofs.Common.{arith, ◌≡◌, ℕ, Bool, true, false, ◌&&◌, ◌||◌, not, cond, List, [], ◌∷◌, ◌++◌, refl, sym, ◌∙◌, ap, append_assoc, append-nil, Option, None, Some, codes, nat_eq, fold, Token, Word, Punct, Blank, Defs, Mark, is_operator, is_one_of, is_wordlike, is_literal, is_number, is_comment, begins_with, are_apart, sep, macro_token_bytes, printed_tokens, Setting, stays_joined, is_layout, without_joined_layout, print_after, print, file, file_token_bytes, last_token, left_after, starts_line, begin_line, macro_lines, mark_line, file_name, Class, Left, class_by, class_of, class_is_line_start, is_apart, separator, left_after_token, at_start, left_after_tokens, added, all_added, begin_by, file_by, macro_by, second_so, last_is}
+use Rattle.cweb_print.proofs.Common.{arith, ◌≡◌, ℕ, Bool, true, false, ◌&&◌, ◌||◌, not, cond, List, [], ◌∷◌, ◌++◌, refl, ap, append_assoc, append-nil, Option, None, Some, codes, nat_eq, fold, Token, Word, Punct, Blank, Defs, Mark, is_operator, is_one_of, is_wordlike, is_literal, is_number, is_comment, begins_with, are_apart, sep, macro_token_bytes, printed_tokens, Setting, stays_joined, is_layout, without_joined_layout, print_after, print, file, file_token_bytes, last_token, left_after, starts_line, begin_line, macro_lines, mark_line, file_name, Class, Left, class_by, class_of, class_is_line_start, is_apart, separator, left_after_token, at_start, left_after_tokens, added, all_added, begin_by, file_by, macro_by, second_so, last_is}
 use Rattle.cweb_print.proofs.Lasts.{point-operator}
 
 -- The tests of a punctuator to the left agree with its class.
@@ -89,10 +89,7 @@ kept_by l joined (t ∷ ts) = cases (λ m j. kept_by m j ts) (joined && is_layou
 pub added-append : (by : Class → Token → List ℕ) (left : Left) (xs ys : List Token)
     → all_added by left (xs ++ ys) ≡ all_added by left xs ++ all_added by (fold left_after_token left xs) ys
 added-append by left [] ys = refl
-added-append by left (x ∷ xs) ys =
-    ap (λ (t : List ℕ). added by left x ++ t) (added-append by (left_after_token left x) xs ys)
-    ∙ sym (append_assoc (added by left x)
-    (all_added by (left_after_token left x) xs) (all_added by (fold left_after_token (left_after_token left x) xs) ys))
+added-append by left (x ∷ xs) ys = grind (arith, append_assoc, added-append by (left_after_token left x) xs ys)
 
 fold-append : (left : Left) (xs ys : List Token)
     → fold left_after_token left (xs ++ ys) ≡ fold left_after_token (fold left_after_token left xs) ys

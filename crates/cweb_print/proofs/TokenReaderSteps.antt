@@ -1,5 +1,5 @@
 -- Direct tokens, by index.
-use Rattle.cweb_print.proofs.Common.{arith, ◌≡◌, ℕ, List, Option, None, Some, map, refl, option_map, slice_get, slice_get-map, Token, TokenBytesModel, direct_bytes}
+use Rattle.cweb_print.proofs.Common.{arith, ◌≡◌, ℕ, List, Option, None, Some, map, option_map, slice_get, slice_get-map, Token, TokenBytesModel, direct_bytes}
 
 -- The token at an index has these bytes.
 pub record BorrowsAt (ts : List Token) (n : ℕ) (l : TokenBytesModel) : Type 0 where
@@ -16,9 +16,4 @@ borrowed_in ts n l (Some t) there h = record { token = t; there = there; direct 
 pub direct-at : (lenders : List (Option TokenBytesModel)) (ts : List Token) (n : ℕ) (l : TokenBytesModel)
     → lenders ≡ map direct_bytes ts
     → slice_get lenders n ≡ Some (Some l) → BorrowsAt ts n l
-direct-at lenders ts n l are h = grind (
-  arith,
-  borrowed_in ts n l (slice_get ts n) refl,
-  slice_get-map direct_bytes ts
-      n,
-)
+direct-at lenders ts n l are h = grind (arith, borrowed_in, slice_get-map)

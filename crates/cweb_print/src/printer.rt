@@ -49,7 +49,7 @@ impl<'a> Printer<'a> {
         }
     }
 
-    /// Prints a token: the suffix that it adds to the output so far. A use of a name prints nothing. Allocates nothing.
+    /// Prints a token: what it adds to the output so far, after a fault a prefix. A use prints nothing. No allocation.
     #[inline]
     pub fn write<W: Sink>(&mut self, token: Token<'_>, out: &mut W) -> Result<(), SinkFault>
         requires count { (W.model out.old).failed + 1 < 2 ^ 64 }

@@ -199,7 +199,7 @@ fn hex_at(text: &[u8]) -> Option<u8>
     Some(value)
 }
 
-/// What follows `@l`: two hexadecimal digits between spaces and tabs, and a replacement, which may be empty.
+/// What follows `@l`: two hexadecimal digits, 80 or above, between spaces and tabs, and a replacement, maybe empty.
 pub fn letter(text: &[u8]) -> Option<Transliteration>
     ensures value { result ≡ spec.letter text.now }
     ensures within { IfSome result (λ found. found.start + found.size ≤ length text.now) }

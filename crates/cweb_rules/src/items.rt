@@ -151,8 +151,8 @@ impl Item<'_> {
     }
 }
 
-/// The extent of an item within a source that may end before the item does. It isn't inlined: its locals would cost each
-/// line that the reader takes.
+/// The extent of an item within a source that may end before the item does.
+// Not inlined: its locals would cost each line that the reader takes.
 #[inline(never)]
 pub fn reach(item: Item<'_>, text: &[u8]) -> Reached
     ensures value { result ≡ reached (spec.reach (look_of item.entry) how.Open text.now) }

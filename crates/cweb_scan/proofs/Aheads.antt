@@ -1,6 +1,6 @@
 -- Lines are read before they are taken.
 use Rattle.cweb_files.specs.Shelves.{Observed, ShelfContents, ShelfModel}
-use Rattle.cweb_scan.proofs.Common.{◌≡◌, ◌≤◌, ◌<◌, ℕ, ◌+◌, ◌*◌, List, [], ◌∷◌, ◌++◌, length, Option, None, Some, refl, ap, sym, ◌∙◌, subst, arith, append_assoc, length-append, All-append, All-nil, All-push, LooksAhead, TakesLines, span_bytes, Line, Event, SoFar, so_far_of, opened_file_names, lines_next, with_newlines, top_of, Ahead, MergeState, OpenSource, ReaderModel, cost, read_after, web_size, read_lines, AreLinesBelow, HasTaken, yields_both}
+use Rattle.cweb_scan.proofs.Common.{◌≡◌, ◌≤◌, ◌<◌, ℕ, ◌+◌, ◌*◌, List, [], ◌∷◌, ◌++◌, length, Option, None, Some, refl, ap, sym, ◌∙◌, subst, arith, append_assoc, length-append, All-append, All-push, LooksAhead, TakesLines, span_bytes, Line, Event, SoFar, so_far_of, opened_file_names, lines_next, with_newlines, top_of, Ahead, MergeState, OpenSource, ReaderModel, cost, read_after, web_size, read_lines, AreLinesBelow, HasTaken, yields_both}
 use Rattle.cweb_lines.specs.surface.MergeProgress.{EmitsLines}
 use Rattle.cweb_lines.proofs.LinesInBuffer.{standing-append}
 use Rattle.cweb_scan.specs.inner.FastPaths.{ReadsLines}
@@ -12,14 +12,7 @@ none (Some text) = refl
 
 -- No line yet.
 pub read_nothing : {R : Type 0} (run : MergeState R) (pending : ReaderModel) → ReadsLines run [] pending pending
-read_nothing run pending = record {
-  read = λ more. ap (λ (ls : List Line). read_after pending (ls ++ more)) (sym (none (top_of run.stack)));
-  below = subst (AreLinesBelow (length (opened_file_names run.names))) (sym (none (top_of run.stack)))
-      (All-nil (λ (line : Line).
-      line.place.file.0 < length (opened_file_names run.names)));
-  few = omega (arith, ap web_size (none (top_of run.stack)));
-  adds = omega arith;
-}
+read_nothing run pending = grind (arith, none)
 
 -- One more line.
 pub read_more : {R : Type 0} (run : MergeState R) (lines : List (List ℕ)) (ahead : Ahead) (old mid new : ReaderModel)

@@ -1,5 +1,5 @@
 -- C text outside directives: a blank before a lexeme.
-use Rattle.cweb_scan.proofs.Common.{◌≡◌, ◌≤◌, ℕ, ◌+◌, Bool, true, false, ◌==◌, List, [], ◌∷◌, ◌++◌, length, drop, refl, ap, sym, ◌∙◌, subst, arith, if◌then◌else◌, prefix_len, eqb-true, is_blank, IsLine, c_rule, ReaderModel, TakesPrefix, read_on, TakesPlain, ScanState, IsPlainC, drop-sum, if_true}
+use Rattle.cweb_scan.proofs.Common.{◌≡◌, ◌≤◌, ℕ, ◌+◌, Bool, true, false, ◌==◌, List, [], ◌∷◌, length, drop, refl, ap, sym, subst, arith, if◌then◌else◌, prefix_len, eqb-true, is_blank, IsLine, c_rule, ReaderModel, TakesPrefix, TakesPlain, ScanState, IsPlainC, drop-sum, if_true}
 use Rattle.cweb_rules.specs.inner.Rules.{past_blank}
 use Rattle.cweb_rules.specs.declared.rule.Rule.TheVariants as rule
 use Rattle.cweb_scan.proofs.PlainLexemes.{left_line, some_goes_on, TakesSome}
@@ -23,13 +23,7 @@ run_taken (b ∷ t) s line h = (elim (is_blank b) as (λ v.
 -- The first byte of a span that emits nothing.
 first_taken : (m : ℕ) (u : List ℕ) (a : ReaderModel) → 1 ≤ length u
     → TakesPrefix (1 + m) u a a → TakesPrefix m (drop 1 u) a a → TakesPrefix 1 u a a
-first_taken m u a some x y = record {
-  begun = refl;
-  within = some;
-  adds = omega arith;
-  same = λ later more e. sym (y.same later more e)
-      ∙ sym (ap (λ (t : List ℕ). read_on a later (t ++ more)) (drop-sum 1 m u)) ∙ x.same later more e;
-}
+first_taken m u a some x y = grind (arith, drop-sum)
 
 one_blank : (t : List ℕ) (s : ScanState) → IsLine (32 ∷ t) → IsPlainC s → TakesPlain 1 (32 ∷ t) s s
 one_blank t s line h =

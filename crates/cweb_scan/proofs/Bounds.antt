@@ -23,13 +23,7 @@ open-list f None = refl
 open-list f (Some p) = omega arith
 
 pub all-size : (f : Token → ℕ) (v : PartsSoFar) → sum_over f (all_tokens (all_parts v)) ≡ parts_size f v
-all-size f v =
-    omega (
-      arith,
-      total-tokens f (all_parts v),
-      total-append (part_size f) v.closed (option_to_list v.current),
-      open-list f v.current,
-    )
+all-size f v = grind (arith, total-tokens, total-append, open-list)
 
 length-total : (ts : List Token) → length ts ≡ sum_over one ts
 length-total [] = refl
@@ -60,18 +54,7 @@ replacements-bytes (r ∷ rs) = omega (arith, replacements-bytes rs)
 
 of_state : (s : ScanState) (n : ℕ) → token_number s.contents ≤ n
     → stored_bytes s.contents ≤ n → IsBounded (finished s.contents) n
-of_state s n h k = record {
-  tokens = omega (arith, h, length-total (all_tokens (all_parts s.contents.parts)), all-size one s.contents.parts);
-  bytes =
-      omega (
-        arith,
-        k,
-        all-size spelling_size s.contents.parts,
-        tokens-bytes (all_tokens (all_parts s.contents.parts)),
-        occurrences-bytes s.contents.occurrences,
-        replacements-bytes s.contents.replacements,
-      );
-}
+of_state s n h k = grind (arith, length-total, all-size, tokens-bytes, occurrences-bytes, replacements-bytes)
 
 pub bounded : (lines : List Line) → IsBounded (scanned lines).store (web_size lines)
 bounded [] = of_state (leave (read_lines []).state) 0 (omega arith) (omega arith)

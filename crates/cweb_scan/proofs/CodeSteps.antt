@@ -1,5 +1,5 @@
 -- One step without an open item: a code, and the bytes before one.
-use Rattle.cweb_scan.proofs.Common.{◌≡◌, ◌≤◌, ℕ, Bool, true, false, ◌==◌, not, List, [], ◌∷◌, drop, get_or, refl, ap, sym, ◌∙◌, subst, codes, prefix_len, eqb-true, begins, starts_section, match_in, effect_match, section_match, IsLine, opens_in, opens_effect, Context, Limbo, TeX, Definition, Effect, Named, is_c, effect_in, is_head, is_name_effect, is_skipped, reads_c, ReaderModel, TakesPrefix, MakesProgress, Between, and_parts}
+use Rattle.cweb_scan.proofs.Common.{◌≡◌, ◌≤◌, ℕ, Bool, true, false, ◌==◌, not, List, [], ◌∷◌, drop, get_or, refl, ap, sym, subst, codes, prefix_len, eqb-true, begins, starts_section, match_in, effect_match, section_match, IsLine, opens_in, opens_effect, Context, Limbo, TeX, Definition, Effect, Named, is_c, effect_in, is_head, is_name_effect, is_skipped, reads_c, ReaderModel, TakesPrefix, MakesProgress, Between, and_parts, arith}
 use Rattle.cweb_scan.proofs.SkippedRest.{is_text, skipped_takes}
 use Rattle.cweb_scan.proofs.FirstMatchTaken.{between}
 
@@ -7,10 +7,7 @@ use Rattle.cweb_scan.proofs.FirstMatchTaken.{between}
 pub code_shape : (u : List ℕ) → starts_section u ≡ false
     → begins (codes "@") u ≡ true → 64 ∷ get_or u 1 0 ∷ drop 2 u ≡ u
 code_shape [] section at = cc
-code_shape (a ∷ []) section at =
-    let wrong : true ≡ false =
-    subst (λ n. (n == 64) ≡ false) (sym (eqb-true 64 a (and_parts (64 == a) true at).0)) section in
-    cc
+code_shape (a ∷ []) section at = grind (arith, eqb-true, and_parts)
 code_shape (a ∷ b ∷ t) section at = ap (λ n. n ∷ b ∷ t) (eqb-true 64 a (and_parts (64 == a) true at).0)
 
 code_is : (c : Context) (includes : Bool) (b : ℕ) (w : List ℕ) → is_head c ≡ false → starts_section (64 ∷ b ∷ w) ≡ false
@@ -33,14 +30,7 @@ plain_code _ takes t h = (refl, refl)
 pub plain_prefix : (c : Context) (includes : Bool) (u : List ℕ) → is_head c ≡ false
     → starts_section u ≡ false → begins (codes "@") u ≡ true → is_name_effect (effect_in c (get_or u 1 0)) ≡ false
     → (match_in c includes u ≡ effect_match (effect_in c (get_or u 1 0)) true u) × (opens_in c u ≡ false)
-plain_prefix c includes u head section at plain =
-    let b = get_or u 1 0 in
-    let w = drop 2 u in
-    let shape = code_shape u section at in
-    let p = plain_code (effect_in c b) (not (is_c c)) (64 ∷ b ∷ w) plain in
-    let s = subst (λ (x : List ℕ). starts_section x ≡ false) (sym shape) section in
-    subst (λ (x : List ℕ). (match_in c includes x ≡ effect_match (effect_in c b) true x) × (opens_in c x ≡ false)) shape
-    (code_is c includes b w head s ∙ p.0, code_opens c b w head s ∙ p.1)
+plain_prefix c includes u head section at plain = grind (arith, code_shape, plain_code, code_is, code_opens)
 
 text_is : (c : Context) → reads_c c ≡ false → is_text c ≡ true
 text_is Limbo h = refl

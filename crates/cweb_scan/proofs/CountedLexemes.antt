@@ -1,5 +1,5 @@
 -- Sections and occurrences are those of the lexemes.
-use Rattle.cweb_scan.proofs.Common.{◌≡◌, ℕ, ◌+◌, Bool, true, false, List, [], ◌∷◌, ◌++◌, Option, Some, None, length, refl, ap, sym, ◌∙◌, arith, append_assoc, append-nil, length-append, subst, fold, add_name, option_to_list, if◌then◌else◌, Place, Line, NameRef, Context, Limbo, TeX, Macro, CText, Effect, Define, Format, Program, End, Cut, Kind, Lexeme, Skipped, Section, Code, Defined, unescaped, ScanState, leave_in, leave, begin_section, end_macro_in, name_occurrence, Reading, item, after_lexeme, enter, apply_effect, define, report_name_fault, name_in_context, each_line_end, move_to, source_start}
+use Rattle.cweb_scan.proofs.Common.{◌≡◌, ℕ, ◌+◌, Bool, true, false, List, [], ◌∷◌, ◌++◌, Option, Some, None, length, refl, ap, sym, ◌∙◌, arith, append_assoc, append-nil, length-append, subst, fold, add_name, option_to_list, Place, Line, NameRef, Context, Limbo, TeX, Macro, CText, Effect, Define, Format, Program, End, Cut, Kind, Lexeme, Skipped, Section, Code, Defined, unescaped, ScanState, leave_in, leave, begin_section, end_macro_in, name_occurrence, Reading, item, after_lexeme, enter, apply_effect, define, report_name_fault, name_in_context, each_line_end, move_to, source_start}
 use Rattle.std.specs.List.{filter_map, cons_option}
 use Rattle.cweb_rules.specs.Matches.{Occurrence}
 use Rattle.cweb_names.specs.Names as names
@@ -12,14 +12,7 @@ abbrev pub Same : ScanState → ScanState → Type 0
 Same s m = (m.sections ≡ s.sections) × (m.starred ≡ s.starred) × (m.contents.occurrences ≡ s.contents.occurrences)
 
 stays_same : (s : ScanState) → Preserves (Same s)
-stays_same s = record {
-  emits = λ t m small h. h;
-  reports = λ k p m h. h;
-  moves = λ p m h. h;
-  replaces = λ x m h. h;
-  folds = λ v m h. h;
-  drops = λ begun m e h. h;
-}
+stays_same s = grind arith
 
 same : (s : ScanState) → Same s s
 same s = (refl, refl, refl)
@@ -66,20 +59,10 @@ record Counts (s m : ScanState) (starts : List Bool) (named : List names.Occurre
   pub occurrences : m.contents.occurrences ≡ s.contents.occurrences ++ named
 
 nothing : {s m : ScanState} → Same s m → Counts s m [] []
-nothing {s} {m} h = record {
-  number = omega (arith, h.0);
-  starred = h.1 ∙ sym (append-nil s.starred);
-  occurrences = h.2 ∙ sym (append-nil s.contents.occurrences);
-}
+nothing {s} {m} h = grind (arith, append-nil)
 
 section-counts : (starred : Bool) (s : ScanState) → Counts s (begin_section starred s) (starred ∷ []) []
-section-counts starred s =
-    let h = leave-same s.context s in
-    record {
-      number = refl;
-      starred = ap (λ ns. s.starred ++ ns) (sym (append-nil (if starred then (s.sections + 1) ∷ [] else [])));
-      occurrences = h.2 ∙ sym (append-nil s.contents.occurrences);
-    }
+section-counts starred s = grind (arith, leave-same, append-nil)
 
 name-counts : (is_file : Bool) (units : List (List ℕ)) (how : End) (opens : Bool) (bytes : List ℕ) (r : Reading)
     → Counts r.state (item (Occurrence is_file units how opens) bytes r).state []
@@ -115,24 +98,11 @@ item-counts k bytes r = small-counts k bytes r tt
 starred-append : (n : ℕ) (a b : List Bool)
     → starred_numbers n (a ++ b) ≡ starred_numbers n a ++ starred_numbers (n + length a) b
 starred-append n [] b = ap (λ m. starred_numbers m b) (let e : n ≡ n + 0 = omega arith in e)
-starred-append n (x ∷ a) b =
-    let here = if x then n ∷ [] else [] in
-    ap (λ ns. here ++ ns) (starred-append (n + 1) a b)
-    ∙ sym (append_assoc here (starred_numbers (n + 1) a) (starred_numbers ((n + 1) + length a) b))
-    ∙ ap (λ m. (here ++ starred_numbers (n + 1) a) ++ starred_numbers m b)
-    (let e : (n + 1) + length a ≡ n + length (x ∷ a) = omega arith in e)
+starred-append n (x ∷ a) b = grind (arith, append_assoc, starred-append (n + 1) a b)
 
 both : {s m k : ScanState} {a b : List Bool} {x y : List names.Occurrence} → Counts s m a x → Counts m k b y
     → Counts s k (a ++ b) (x ++ y)
-both {s} {m} {k} {a} {b} {x} {y} f g = record {
-  number = omega (arith, f.number, g.number, length-append a b);
-  starred = g.starred ∙ ap (λ ns. ns ++ starred_numbers (m.sections + 1) b) f.starred
-      ∙ append_assoc s.starred (starred_numbers (s.sections + 1) a) (starred_numbers (m.sections + 1) b)
-      ∙ ap (λ n. s.starred ++ (starred_numbers (s.sections + 1) a ++ starred_numbers n b))
-      (let e : m.sections + 1 ≡ (s.sections + 1) + length a = omega (arith, f.number) in e)
-      ∙ ap (λ ns. s.starred ++ ns) (sym (starred-append (s.sections + 1) a b));
-  occurrences = g.occurrences ∙ ap (λ os. os ++ y) f.occurrences ∙ append_assoc s.contents.occurrences x y;
-}
+both {s} {m} {k} {a} {b} {x} {y} f g = grind (arith, length-append, append_assoc, starred-append)
 
 cons-option : {X : Type 0} (o : Option X) (xs : List X) → option_to_list o ++ xs ≡ cons_option o xs
 cons-option None xs = refl
@@ -158,13 +128,7 @@ lines-count : (line : Line) (lines : List Line) →
     let ps = lexemes_of_lines (line ∷ lines) in
     Counts r.state (leave (fold after_lexeme r ps).state) (section_starts ps)
     (filter_map (λ p. occurrence_of_kind p.kind) ps)
-lines-count line lines =
-    let r = source_start line lines in
-    let ps = lexemes_of_lines (line ∷ lines) in
-    let c = lexemes-count ps r in
-    let s = (fold after_lexeme r ps).state in
-    let h = leave-same s.context s in
-    record { number = h.0 ∙ c.number; starred = h.1 ∙ c.starred; occurrences = h.2 ∙ c.occurrences }
+lines-count line lines = grind (arith, lexemes-count, leave-same)
 
 pub sections_are_section_starts : (lines : List Line) → SectionsAreSectionStarts lines
 sections_are_section_starts [] = record { number = refl; starred = refl }

@@ -1,5 +1,5 @@
 -- Items over line ends: the last unit in a line may end with its newline.
-use Rattle.cweb_scan.proofs.Common.{◌≡◌, ◌≤◌, ◌<◌, ℕ, zero, suc, ◌+◌, ◌-◌, Bool, true, false, ◌&&◌, ◌||◌, ◌==◌, List, [], ◌∷◌, ◌++◌, length, take, drop, refl, ap, sym, ◌∙◌, arith, codes, if◌then◌else◌, append_assoc, length-append, take-append-drop, flat_map, flat_map-append, Look, Goes, Ends, look_in_literal, Reach, reach, reach_in, body, reach_size, with_unit, End, Closed, Cut, Open, is_unclosed, begins, is_line_end, IsLocal, IsEnd, AtLineEnd}
+use Rattle.cweb_scan.proofs.Common.{◌≡◌, ◌≤◌, ◌<◌, ℕ, zero, suc, ◌+◌, ◌-◌, true, List, [], ◌∷◌, ◌++◌, length, take, drop, refl, ap, sym, ◌∙◌, arith, append_assoc, length-append, take-append-drop, flat_map, flat_map-append, Look, Goes, Ends, look_in_literal, Reach, reach, reach_in, body, reach_size, with_unit, End, Cut, Open, is_unclosed, IsLocal, IsEnd, AtLineEnd}
 use Rattle.cweb_rules.specs.inner.LineItems.{goes_on}
 use Rattle.cweb_rules.proofs.Looks.{IsWithin, AllWithin, literal-local}
 use Rattle.cweb_scan.proofs.Ends.{at_start}
@@ -14,47 +14,18 @@ pub record CrossesNewline (look : List ℕ → Look) : Type 0 where
 -- If no unit extends over the newline.
 pub crosses : (look : List ℕ → Look) → AllWithin look → ((more : List ℕ) → AtLineEnd more → IsLocal look more)
     → ((line : List ℕ) → look (10 ∷ line) ≡ look (10 ∷ [])) → CrossesNewline look
-crosses look within local same = record {
-  local = λ line. local (10 ∷ line) refl;
-  same = same;
-  newline = within 10 [];
-  within = λ b t. looser (look (b ∷ t)) (length (b ∷ t)) (within b t);
-}
-  where
-    looser : (v : Look) (n : ℕ) → IsWithin v n → IsWithin v (n + 1)
-    looser (Goes m) n h = (h.0, omega (arith, h.1))
-    looser (Ends m how) n h = h
+crosses look within local same = grind arith
 
 -- In a literal, `\` and the newline are a unit.
 pub literal_crosses : (quote : ℕ) → CrossesNewline (look_in_literal quote)
-literal_crosses quote = record {
-  local = λ line. literal-local quote (10 ∷ line) refl;
-  same = λ line. refl;
-  newline = by_test (quote == 10 && true) 1 (Ends 1 Closed) (Ends 0 Cut) tt tt;
-  within = λ b t.
-      let n = length (b ∷ t) + 1 in
-      by_test (begins (quote ∷ []) (b ∷ t)) n _ _ tt (by_test (is_line_end b) n _ _ tt
-      (by_test (begins (codes "\\@") (b ∷ t)) n _ _ (omega arith, omega arith)
-      (by_test (begins (codes "\\") (b ∷ t) || begins (codes "@@") (b ∷ t)) n _ _ (omega arith, omega arith)
-      (omega arith, omega arith))));
-}
-  where
-    by_test : (v : Bool) (n : ℕ) (x y : Look) → IsWithin x n → IsWithin y n → IsWithin (if v then x else y) n
-    by_test true n x y f g = f
-    by_test false n x y f g = g
+literal_crosses quote = grind (arith, literal-local)
 
 abbrev pub after_units : List (List ℕ) → Reach → Reach
 after_units us m = record { units = us ++ m.units; close = m.close; how = m.how }
 
 sizes : (us : List (List ℕ)) (t : List ℕ) (m : Reach)
     → flat_map (λ u. u) us ≡ t → reach_size (after_units us m) ≡ length t + reach_size m
-sizes us t m h =
-    omega (
-      arith,
-      ap (λ (x : List ℕ). length x) (flat_map-append (λ u. u) us m.units),
-      length-append (flat_map (λ u. u) us) (body m),
-      ap (λ (x : List ℕ). length x) h,
-    )
+sizes us t m h = grind (arith, flat_map-append, length-append)
 
 ends : (how : End) → IsEnd how → is_unclosed how ≡ true → ⊥
 ends Open h g = h
@@ -133,20 +104,11 @@ crossed look o e v line h = crossed_in look o e 0 v line (omega arith) h
 -- Whether the item goes on after one more line depends on that line.
 pub crossed_how : (look : List ℕ → Look) → CrossesNewline look → (v line : List ℕ) → goes_on look v ≡ true
     → goes_on look (v ++ 10 ∷ line) ≡ goes_on look line
-crossed_how look o v line h =
-    ap (λ (t : List ℕ). is_unclosed (reach look Open t).how) (append_assoc v (10 ∷ line) (10 ∷ []))
-    ∙ ap (λ (r : Reach). is_unclosed r.how) (crossed look o Open v (line ++ 10 ∷ []) h).on
+crossed_how look o v line h = grind (arith, append_assoc, crossed)
 
 pub crossed_size : (look : List ℕ → Look) → CrossesNewline look → (v line : List ℕ) → goes_on look v ≡ true
     → reach_size (reach look Cut (v ++ 10 ∷ line)) ≡ length v + 1 + reach_size (reach look Cut line)
-crossed_size look o v line h =
-    let c = crossed look o Cut v line h in
-    omega (
-      arith,
-      ap reach_size c.on,
-      sizes (reach look Open (v ++ 10 ∷ [])).units (v ++ 10 ∷ []) (reach look Cut line) c.bytes,
-      length-append v (10 ∷ []),
-    )
+crossed_size look o v line h = grind (arith, crossed, sizes, length-append)
 
 -- The source's end ends the item.
 ended_at : (look : List ℕ → Look) (b : ℕ) (v : List ℕ) (w : Look) → IsWithin w (length (b ∷ v) + 1)

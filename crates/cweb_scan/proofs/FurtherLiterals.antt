@@ -1,5 +1,5 @@
 -- C text outside directives: literals that end in their line and have no `@`.
-use Rattle.cweb_scan.proofs.Common.{◌≡◌, ◌≤◌, ℕ, ◌+◌, suc, true, false, ◌&&◌, ◌==◌, not, List, [], ◌∷◌, ◌++◌, length, take, drop, refl, ap, sym, ◌∙◌, subst, arith, if◌then◌else◌, codes, bytes_eq, flat_map, fold, prefix_len, Literal, Reach, reach, body, reach_size, literal_match, literal_prefix, quote_of, look_in_literal, unit_bytes, unescaped, IsLine, is_unclosed, reached, c_rule, End, Closed, Cut, Open, Reached, Reading, ended_as, each_line_end, emit_literal, literal_unit, Applies, TakesPlain, ScanState, emit, move_to, is_skipped, IsPlainC}
+use Rattle.cweb_scan.proofs.Common.{◌≡◌, ◌≤◌, ℕ, ◌+◌, suc, true, false, ◌&&◌, ◌==◌, not, List, [], ◌∷◌, ◌++◌, length, take, drop, refl, ap, sym, ◌∙◌, subst, arith, if◌then◌else◌, codes, bytes_eq, flat_map, fold, prefix_len, Literal, Reach, reach, body, reach_size, literal_match, literal_prefix, quote_of, look_in_literal, unit_bytes, unescaped, IsLine, is_unclosed, reached, c_rule, End, Closed, Cut, Open, Reached, Reading, ended_as, emit_literal, literal_unit, Applies, TakesPlain, ScanState, emit, is_skipped, IsPlainC}
 use Rattle.cweb_rules.specs.declared.rule.Rule.TheVariants as rule
 use Rattle.cweb_rules.proofs.OverLineEnds.{ended_stops}
 use Rattle.cweb_rules.proofs.Looks.{literal-local, literal-some}
@@ -45,9 +45,7 @@ text_stays (u ∷ us) h =
 
 unit_reported : (u : List ℕ) (s : ScanState) → HasNone u → literal_unit (nothing_later s) u ≡ nothing_later s
 unit_reported [] s h = refl
-unit_reported (b ∷ t) s h = ap (λ v. if v && bytes_eq t [] then literal_unit
-    (nothing_later s) (codes "@") else each_line_end move_to (b ∷ t) (nothing_later s)) h.0
-    ∙ none_to_come move_to (b ∷ t) s
+unit_reported (b ∷ t) s h = grind (arith, none_to_come)
 
 units_reported : (us : List (List ℕ)) (s : ScanState) → HasNone (flat_map (λ u. u) us)
     → fold literal_unit (nothing_later s) us ≡ nothing_later s

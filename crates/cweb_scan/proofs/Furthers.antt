@@ -1,10 +1,9 @@
 -- C text outside directives: lexemes that their first byte doesn't determine.
-use Rattle.cweb_scan.proofs.Common.{◌≡◌, ◌≤◌, ℕ, zero, suc, ◌+◌, Bool, false, ◌&&◌, ◌==◌, not, List, [], ◌∷◌, Option, Some, None, length, take, drop, refl, ap, sym, ◌∙◌, arith, if◌then◌else◌, codes, bytes_eq, Token, Number, Punct, Blank, begins, first_is, at_line_end, in_c, reach, reach_size, match_in, comment_match, look_in_comment, IsLine, is_unclosed, opens_in, reached, c_rule, c_match_by, listed, longest, number_len, Context, CText, End, Closed, Cut, Open, Reached, Look, Rule, Reading, blank, pass_comment, comment_line_end, punctuator, directive, is_c, names_include, Applies, ended_as, is_head, TakesPlain, ScanState, emit, and-false, some_include, is_last_blank, is_some, IsPlainC, IsPlainToken}
+use Rattle.cweb_scan.proofs.Common.{◌≡◌, ◌≤◌, ℕ, zero, suc, ◌+◌, Bool, false, ◌&&◌, not, List, [], ◌∷◌, Option, Some, None, length, take, drop, refl, ap, sym, ◌∙◌, arith, if◌then◌else◌, codes, Token, Number, Punct, Blank, begins, first_is, at_line_end, in_c, reach, reach_size, match_in, comment_match, look_in_comment, IsLine, is_unclosed, opens_in, reached, c_rule, c_match_by, listed, longest, number_len, Context, CText, End, Closed, Cut, Open, Reached, Look, Rule, Reading, blank, pass_comment, comment_line_end, directive, is_c, names_include, Applies, ended_as, is_head, TakesPlain, ScanState, emit, and-false, some_include, is_last_blank, is_some, IsPlainC, IsPlainToken}
 use Rattle.cweb_rules.specs.inner.Rules.{stops_plain}
 use Rattle.cweb_rules.specs.declared.items.Item.TheVariants as item
 use Rattle.std.proofs.lemmas.Bool.{or_parts}
 use Rattle.cweb_rules.specs.declared.rule.Rule.TheVariants as rule
-use Rattle.cweb_scan.specs.declared.directive.Last.TheVariants as last
 use Rattle.cweb_scan.proofs.InLineItemSteps.{closed_at}
 use Rattle.cweb_scan.proofs.Ends.{how-at_end, line_comment_yields, none_to_come, size-at_end}
 use Rattle.cweb_scan.proofs.PendingComments.{comment_goes_on}
@@ -20,16 +19,11 @@ none_included (Some ts) h = cc
 
 -- Outside directives an included name is no rule.
 rule_plain : (s : ScanState) (u : List ℕ) (r : Rule) → IsPlainC s → r ≡ c_rule false u → r ≡ rule_at s u
-rule_plain s u r h is = is
-    ∙ ap (λ v. c_rule v u) (sym (ap (λ v. is_c s.context && v) (none_included (directive s).tokens (none_open s h))
-    ∙ and-false (is_c s.context)))
+rule_plain s u r h is = grind (arith, none_included, none_open, and-false)
 
 ends_by : (c : Context) (includes : Bool) (u : List ℕ) (r : Rule) → c ≡ CText → r ≡ c_rule (is_c c && includes) u
     → opens_by in_c u r ≡ false → (match_in c includes u ≡ c_match_by in_c false u r) × (opens_in c u ≡ false)
-ends_by CText includes u r h is ends = (
-  c_is includes u ∙ ap (c_match_by in_c false u) (sym is),
-  c_opens_is includes u ∙ ap (opens_by in_c u) (sym is) ∙ ends,
-)
+ends_by CText includes u r h is ends = grind (arith, c_is, c_opens_is)
 ends_by _ includes u r h is ends = cc
 
 -- An item that may continue after its line, but ends in it.
@@ -44,9 +38,7 @@ ended_turn n u s new r line some h is ends yields =
 
 pub number_turn : (n : ℕ) (u : List ℕ) (s new : ScanState) → IsLine u → 1 ≤ length u → IsPlainC s
     → rule.Number ≡ c_rule false u → n ≡ number_len 0 u → new ≡ emit (Number (take n u)) s → TakesPlain n u s new
-number_turn n u s new line some h is size made =
-    turn n u s new rule.Number line some h.in_c (rule_plain s u rule.Number h is) refl
-    (record { size = size; state = made ∙ ap (λ k. emit (Number (take k u)) s) size })
+number_turn n u s new line some h is size made = grind (arith, turn, rule_plain)
 
 pub seen_word : (s : ScanState) (u : List ℕ) → IsPlainC s → rule.Identifier ≡ c_rule false u
     → rule.Identifier ≡ rule_at s u
@@ -55,23 +47,10 @@ seen_word s u h is = rule_plain s u rule.Identifier h is
 pub operator_turn : (n : ℕ) (u : List ℕ) (s new : ScanState) → IsLine u → 1 ≤ length u → IsPlainC s
     → rule.Punctuator ≡ c_rule false u → n ≡ longest listed u
     → new ≡ record (emit (Punct (take n u)) s) { folded = false } → TakesPlain n u s new
-operator_turn n u s new line some h is size made =
-    turn n u s new rule.Punctuator line some h.in_c (rule_plain s u rule.Punctuator h is) refl
-    (record {
-      size = size;
-      state = made ∙ ap (λ v. record (emit (Punct (take n u)) s) { folded = v && s.folded }) (sym h.outside)
-          ∙ ap (λ k. punctuator (take k u) s) size;
-    })
+operator_turn n u s new line some h is size made = grind (arith, turn, rule_plain)
 
 plain_punct : (n b : ℕ) (t : List ℕ) → stops_plain b ≡ false → IsPlainToken (Punct (take (suc n) (b ∷ t)))
-plain_punct n b t kept =
-    let hash = (or_parts (35 == b) _ (or_parts (64 == b) _ kept).1).0 in
-    let back = (or_parts (92 == b) _ (or_parts (35 == b) _ (or_parts (64 == b) _ kept).1).1).0 in
-    record {
-      hash = ap (λ v. v && bytes_eq (take n t) []) (turned b 35 hash);
-      last = ap (λ v. if v && bytes_eq (take n t) [] then last.Backslash else last.Other) (turned b 92 back);
-      solid = refl;
-    }
+plain_punct n b t kept = grind (arith, or_parts, turned)
 
 pub operator_token : (n : ℕ) (u : List ℕ) → n ≡ longest listed u → 1 ≤ length u → first_is stops_plain u ≡ false
     → IsPlainToken (Punct (take n u))

@@ -1,5 +1,5 @@
 -- Lexemes that may occur in a head.
-use Rattle.cweb_scan.proofs.Common.{◌≡◌, ◌≤◌, ℕ, Bool, true, false, ◌&&◌, ◌||◌, ◌==◌, not, List, [], ◌∷◌, length, refl, ap, sym, ◌∙◌, subst, if◌then◌else◌, codes, prefix_len, eqb-true, Place, begins, is_blank, starts_section, in_tex, in_macro, match_in, head_match_of, head_match, Blanks, RuleMatch, rule_match, IsLine, opens_in, c_opens, opens_code, tex_opens, c_rule, c_match_by, Context, Definition, Rule, blank, enter_in, stays_in_head, directive, is_c, is_some, names_include, Applies, ReaderModel, MakesProgress, Between, next_match, ScanState, drop_definition, emit}
+use Rattle.cweb_scan.proofs.Common.{◌≡◌, ◌≤◌, ℕ, Bool, true, false, ◌&&◌, ◌||◌, not, List, [], ◌∷◌, length, refl, ap, sym, ◌∙◌, if◌then◌else◌, codes, prefix_len, eqb-true, Place, begins, is_blank, starts_section, in_tex, in_macro, match_in, head_match_of, head_match, Blanks, RuleMatch, rule_match, IsLine, opens_in, c_opens, opens_code, tex_opens, c_rule, c_match_by, Context, Definition, Rule, blank, enter_in, stays_in_head, directive, is_c, is_some, names_include, Applies, ReaderModel, MakesProgress, Between, next_match, ScanState, drop_definition, emit, arith}
 use Rattle.cweb_rules.specs.declared.rule.Rule.TheVariants as rule
 use Rattle.cweb_scan.specs.DirectiveTokens as directives
 use Rattle.cweb_scan.proofs.InLineItemSteps.{at_item, staying_at}
@@ -10,13 +10,7 @@ use Rattle.cweb_scan.proofs.HeadSteps.{by_rule}
 no_at : (is : Rule → Bool) (u : List ℕ) → is rule.Section ≡ false
     → is rule.Code ≡ false → is (c_rule false u) ≡ true → begins (codes "@") u ≡ false
 no_at is [] s c h = refl
-no_at is (b ∷ t) s c h = (elim (64 == b) as (λ v. (64 == b) ≡ v → (v && true) ≡ false) [
-  | true ↦ λ e.
-      let first : is (c_rule false (64 ∷ t)) ≡ true =
-      subst (λ n. is (c_rule false (n ∷ t)) ≡ true) (sym (eqb-true 64 b e)) h in
-      let wrong : true ≡ false = sym first ∙ neither is (starts_section (64 ∷ t)) rule.Section rule.Code s c in cc
-  | false ↦ λ e. refl
-]) refl
+no_at is (b ∷ t) s c h = grind (arith, eqb-true, neither)
 
 unless : (v x : Bool) → x ≡ false → (if v then false else x) ≡ false
 unless true x h = refl

@@ -1,5 +1,5 @@
 -- Lexemes that end a head.
-use Rattle.cweb_scan.proofs.Common.{◌≡◌, ◌≤◌, ℕ, Bool, true, false, List, [], ◌∷◌, ◌++◌, Option, Some, None, length, drop, take, refl, ap, sym, ◌∙◌, subst, arith, if◌then◌else◌, codes, Place, begins, is_digit, starts_section, in_tex, in_macro, match_in, c_match, code_match, effect_match, head_match_of, head_match, found_letter_match, section_match, tex_match, Kind, Skipped, Section, Blanks, LineEnd, Comment, Defined, Identifier, RuleMatch, rule_match, AtLineEnd, c_rule, c_match_by, Transliteration, Context, Definition, Effect, Rule, enter_in, item, stays_in_head, names_include, ReaderModel, MakesProgress, Between, lex, ScanState, drop_definition}
+use Rattle.cweb_scan.proofs.Common.{◌≡◌, ◌≤◌, ℕ, Bool, true, false, List, [], ◌∷◌, ◌++◌, Option, Some, None, length, drop, take, refl, ap, sym, ◌∙◌, subst, arith, if◌then◌else◌, codes, Place, begins, is_digit, in_tex, in_macro, match_in, c_match, code_match, effect_match, head_match_of, head_match, found_letter_match, section_match, tex_match, Kind, Section, Blanks, LineEnd, Comment, Defined, Identifier, RuleMatch, rule_match, AtLineEnd, c_rule, c_match_by, Transliteration, Context, Definition, Effect, Rule, enter_in, item, stays_in_head, names_include, ReaderModel, MakesProgress, Between, lex, ScanState, drop_definition}
 use Rattle.cweb_rules.specs.Constants.{letter}
 use Rattle.cweb_rules.specs.declared.effect.Effect.TheVariants as effect
 use Rattle.cweb_rules.specs.declared.rule.Rule.TheVariants as rule
@@ -54,9 +54,7 @@ foreign_code effect takes (a ∷ []) = refl
 foreign_code effect takes (a ∷ b ∷ t) = foreign_effect (effect b) takes (a ∷ b ∷ t)
 
 foreign_text : (effect : ℕ → Effect) (t : List ℕ) → foreign (tex_match effect t) ≡ true
-foreign_text effect t = either foreign (starts_section t) _ _
-    (foreign_section t) (either foreign (begins (codes "@") t) _ (rule_match Skipped 1)
-    (foreign_code effect true t) refl)
+foreign_text effect t = grind (arith, either, foreign_section, foreign_code)
 
 pub foreign_rule : (v : List ℕ) (r : Rule) → (r ≡ rule.Blanks → ⊥) → (r ≡ rule.Comment → ⊥) → (r ≡ rule.LineComment → ⊥)
     → (r ≡ rule.Identifier → ⊥) → is_ended r ≡ false → foreign (c_match_by in_macro true v r) ≡ true
@@ -114,25 +112,7 @@ dropped_passes : (n : ℕ) (u : List ℕ) (h v new : ReaderModel) (begun : Place
     → h.item ≡ Between → h.state.context ≡ Definition begun → 1 ≤ length u → r ≡ c_rule false u
     → ((w : List ℕ) → foreign (c_match_by in_macro true w r) ≡ true)
     → MakesProgress n u (at_item v (drop_definition begun v.state)) new → MakesProgress n u h new
-dropped_passes n u h v new begun r same none in_head some is left passes =
-    let p = subst (λ (k : ReaderModel). MakesProgress n u (at_item k (drop_definition begun k.state)) new) same passes
-    in
-    let old : record { state = h.state; item = Between; begun = h.begun } ≡ h =
-    λ i. record { state = h.state; item = sym none i; begun = h.begun } in
-    let q =
-    subst (λ i. MakesProgress n u (record { state = drop_definition begun h.state; item = i; begun = h.begun }) new)
-    none p in
-    subst (λ (k : ReaderModel). MakesProgress n u k new) old (record {
-      some = q.some;
-      last = q.last;
-      taken = record {
-        begun = q.taken.begun;
-        within = q.taken.within;
-        adds = q.taken.adds;
-        same = λ later more e.
-            q.taken.same later more e ∙ dropped_line h.state begun later u more r in_head some e is left;
-      };
-    })
+dropped_passes n u h v new begun r same none in_head some is left passes = grind (arith, dropped_line)
 
 pub dropped_at : (n : ℕ) (u : List ℕ) (h v new : ReaderModel) (dropped : ScanState) (begun : Place) (r : Rule)
     → v ≡ h → h.item ≡ Between → h.state.context ≡ Definition begun → 1 ≤ length u → r ≡ c_rule false u

@@ -1,5 +1,5 @@
 -- Each lexeme of a scan satisfies the relation of the moves, and how much it emits at most.
-use Rattle.cweb_scan.proofs.Common.{◌≡◌, ◌≤◌, ℕ, ◌+◌, ◌*◌, Bool, true, false, ◌&&◌, ◌==◌, List, [], ◌∷◌, Some, None, length, refl, ap, sym, ◌∙◌, arith, if◌then◌else◌, codes, bytes_eq, flat_map, fold, decimal, Place, Word, Number, Context, Limbo, Definition, unescaped, Kind, Lexeme, Skipped, Section, Code, Letter, ControlText, Constant, Blanks, LineEnd, Comment, Quoted, Defined, Identifier, Numeral, Punctuator, at_line_ends, Pays, Reading, on, next_line, each_line_end, literal_unit, stays_in_head, enter_in, enter, item, after_lexeme, comment_line_end, ScanState, move_to, report, drop_definition, is_line_end, owed_tokens, ReplacementTooLong, FaultyConstant, DoubleAtInString}
+use Rattle.cweb_scan.proofs.Common.{◌≡◌, ◌≤◌, ℕ, ◌+◌, ◌*◌, Bool, true, false, ◌&&◌, ◌==◌, List, [], ◌∷◌, Some, None, length, refl, ap, sym, ◌∙◌, arith, if◌then◌else◌, codes, bytes_eq, flat_map, fold, decimal, Place, Word, Number, Context, Limbo, Definition, unescaped, Kind, Lexeme, Skipped, Section, Code, Letter, ControlText, Constant, Blanks, LineEnd, Comment, Quoted, Defined, Identifier, Numeral, Punctuator, at_line_ends, Pays, Reading, on, next_line, each_line_end, literal_unit, stays_in_head, enter_in, enter, item, after_lexeme, comment_line_end, ScanState, move_to, drop_definition, is_line_end, owed_tokens, ReplacementTooLong, FaultyConstant}
 use Rattle.cweb_rules.proofs.UnitNewlines.{Tells, none-ends, ends-append}
 use Rattle.cweb_rules.specs.Matches.{Occurrence, Verbatim}
 use Rattle.cweb_scan.proofs.Moves.{Moves, OfHead}
@@ -49,11 +49,7 @@ module _ {Ok : Place → Type 0} {R : ℕ → ℕ → ℕ → ℕ → Reading �
   moves bytes r = w.within _ 0 0 0 (each-walks move_to 0 w.advances bytes r) (omega (arith, no_line_ends bytes))
 
   unit-walks : (r : Reading) (u : List ℕ) → R (at_line_ends 1 u) 0 0 0 r (literal_unit r u)
-  unit-walks r u = (elim (bytes_eq u (codes "@")) as (λ v. bytes_eq u (codes "@") ≡ v
-      → R (at_line_ends 1 u) 0 0 0 r (if v then on (report DoubleAtInString) r else each_line_end move_to u r)) [
-        | true ↦ λ e. w.within _ 0 0 0 (step.faults_here w DoubleAtInString r) (omega (arith, sign-none u e))
-        | false ↦ λ e. moves u r
-      ]) refl
+  unit-walks r u = grind (arith, sign-none, moves)
 
   units-walk : (us : List (List ℕ)) (r : Reading)
       → R (at_line_ends 1 (flat_map (λ u. u) us)) 0 0 0 r (fold literal_unit r us)

@@ -1,5 +1,5 @@
 -- The lexemes of a source are the only list that the rules allow.
-use Rattle.cweb_scan.proofs.Common.{◌≡◌, ℕ, ◌≤◌, suc, zero, List, [], ◌∷◌, ◌++◌, length, take, drop, refl, ap, sym, ◌∙◌, arith, take-append-drop, length-append, subst, take-append_seam, drop-append_seam, length-drop, length-take-le, Lexeme, Reading, after_lexeme, next_match, lexemes, AreLexemes}
+use Rattle.cweb_scan.proofs.Common.{◌≡◌, ℕ, ◌≤◌, suc, zero, List, [], ◌∷◌, length, drop, refl, ap, sym, arith, take-append-drop, length-append, subst, take-append_seam, drop-append_seam, length-drop, length-take-le, Lexeme, Reading, after_lexeme, next_match, lexemes, AreLexemes}
 use Rattle.cweb_scan.proofs.NextMatchPays.{fair}
 use Rattle.cweb_scan.proofs.FirstLexeme.{first, pieces_first}
 
@@ -7,15 +7,7 @@ pub ArePieces-unique : (r : Reading) (t : List ℕ) (ps : List Lexeme) → AreLe
 ArePieces-unique r t [] h = sym (ap (lexemes r) h)
 ArePieces-unique r [] (p ∷ ps) h = absurd (omega (arith, ap length h.1, length-append p.bytes h.0, h.2))
 ArePieces-unique r (b ∷ t) (p ∷ ps) h =
-    let n = (next_match r.state (b ∷ t)).size in
-    let bytes : p.bytes ≡ take n (b ∷ t) =
-    sym (take-append_seam p.bytes h.0) ∙ ap (λ k. take k (p.bytes ++ h.0)) h.3.size ∙ ap (take n) (sym h.1) in
-    let rest : h.0 ≡ drop n (b ∷ t) =
-    sym (drop-append_seam p.bytes h.0) ∙ ap (λ k. drop k (p.bytes ++ h.0)) h.3.size ∙ ap (drop n) (sym h.1) in
-    let is_first : p ≡ first r (b ∷ t) = λ i. record { kind = h.3.kind i; bytes = bytes i } in
-    ap (λ qs. p ∷ qs) (ArePieces-unique (after_lexeme r p) h.0 ps h.4 ∙ ap (lexemes (after_lexeme r p)) rest)
-    ∙ ap (λ q. q ∷ lexemes (after_lexeme r q) (drop n (b ∷ t))) is_first
-    ∙ sym (pieces_first r b t (omega (arith, h.2, h.3.size)))
+    grind (arith, take-append_seam, drop-append_seam, pieces_first, ArePieces-unique (after_lexeme r p) h.0 ps h.4)
 
 are_pieces_in : (n : ℕ) (r : Reading) (t : List ℕ) → length t ≤ n → AreLexemes r t (lexemes r t)
 are_pieces_in n r [] h = refl

@@ -1,5 +1,5 @@
 -- The start of a line for any reader, and the end of the source.
-use Rattle.cweb_scan.proofs.Common.{◌≡◌, ◌≤◌, ℕ, Bool, true, false, List, ◌∷◌, ◌++◌, refl, ap, sym, ◌∙◌, subst, arith, Place, Line, line_end, ReaderModel, OpenItem, Between, Pending, is_pending, read_after, source_ended, BeginsLine, TakesLineEnd, TakesBytes, cost, weight, drop, ScanState}
+use Rattle.cweb_scan.proofs.Common.{◌≡◌, ◌≤◌, ℕ, Bool, true, false, List, ◌∷◌, ◌++◌, refl, sym, subst, arith, Place, Line, line_end, ReaderModel, OpenItem, Between, Pending, is_pending, read_after, source_ended, BeginsLine, TakesLineEnd, TakesBytes, cost, weight, drop, ScanState}
 use Rattle.cweb_scan.proofs.FirstMatchTaken.{between}
 use Rattle.cweb_scan.proofs.PendingItems.{pending-weight}
 use Rattle.cweb_scan.proofs.LineEnds.{run-newline}
@@ -19,24 +19,12 @@ not_pending (Pending text ps) h = cc
 -- A line begins after a newline.
 begins_between : (q : Place) (line : List ℕ) (s new : ScanState) (g : Bool) → g ≡ true → new ≡ line_end q s
     → BeginsLine q line 0 (between s g) (between new g)
-begins_between q line s new g begun is = record {
-  first = λ none. absurd (cc (begun, none));
-  next = λ old. subst (λ (v : ScanState). TakesLineEnd q line 0 (between s g) (between v g)) (sym is)
-      (line_ends q line s g begun);
-  within = omega arith;
-  adds = omega (arith, ap weight is, line_end-weight q s);
-  last = λ e. cc;
-}
+begins_between q line s new g begun is = grind (arith, line_ends, line_end-weight)
 
 pub begins_next : (q : Place) (line : List ℕ) (h v : ReaderModel) (new : ScanState) → v ≡ h → h.begun ≡ true
     → is_pending h.item ≡ false → new ≡ line_end q v.state
     → BeginsLine q line 0 h (record { state = new; item = v.item; begun = v.begun })
-begins_next q line h v new is begun loose made =
-    let none : v.item ≡ Between = ap (λ (k : ReaderModel). k.item) is ∙ not_pending h.item loose in
-    subst (λ (k : ReaderModel). BeginsLine q line 0 k (record { state = new; item = v.item; begun = v.begun })) is
-    (subst (λ i. BeginsLine q line 0 (record { state = v.state; item = i; begun = v.begun })
-    (record { state = new; item = i; begun = v.begun })) (sym none)
-    (begins_between q line v.state new v.begun (ap (λ (k : ReaderModel). k.begun) is ∙ begun) made))
+begins_next q line h v new is begun loose made = grind (arith, not_pending, begins_between)
 
 -- A line that has begun is taken once its bytes are.
 pub line_taken : (old mid new : ReaderModel) (line : Line) (n : ℕ) (lines : List Line)

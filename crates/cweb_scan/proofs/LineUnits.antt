@@ -1,5 +1,5 @@
 -- The units of a literal in one line don't use the places of later lines.
-use Rattle.cweb_scan.proofs.Common.{ne_eqb, each_line_end, next_line, ◌≡◌, ℕ, true, false, List, [], ◌∷◌, refl, ap, ◌∙◌, if◌then◌else◌, codes, bytes_eq, fold, Place, DoubleAtInString, Reading, on, literal_unit, IsLine, unit_state, ScanState, report, move_to}
+use Rattle.cweb_scan.proofs.Common.{ne_eqb, each_line_end, next_line, ◌≡◌, ℕ, List, [], ◌∷◌, refl, ap, ◌∙◌, if◌then◌else◌, fold, Place, Reading, literal_unit, IsLine, unit_state, ScanState, arith}
 use Rattle.cweb_rules.proofs.InLines.{AreLines}
 
 -- A line has no newline that could move the place.
@@ -13,10 +13,7 @@ reading s later = record { state = s; later = later }
 
 one-unit : (s : ScanState) (later : List Place) (u : List ℕ) → IsLine u
     → literal_unit (reading s later) u ≡ reading (unit_state s u) later
-one-unit s later u h = ap (λ (r : Reading). if bytes_eq u
-    (codes "@") then on (report DoubleAtInString) (reading s later) else r) (none-line move_to u (reading s later) h)
-    ∙ (elim (bytes_eq u (codes "@")) as (λ v. (if v then on (report DoubleAtInString) (reading s later)
-    else reading s later) ≡ reading (if v then report DoubleAtInString s else s) later) [ true ↦ refl | false ↦ refl ])
+one-unit s later u h = grind (arith, none-line)
 
 -- Their effect on the state doesn't depend on the lines that follow.
 pub units_line : (s : ScanState) (later : List Place) (us : List (List ℕ)) → AreLines us

@@ -1,5 +1,5 @@
 -- The rule of a literal.
-use Rattle.cweb_scan.proofs.Common.{◌≡◌, ℕ, Bool, true, false, ◌&&◌, List, ◌∷◌, ◌++◌, refl, ap, ◌∙◌, if◌then◌else◌, codes, enter_in, begins, at_line_end, Effect, in_macro, in_c, reads_literals, IsPast, raw_match, literal_match, c_match, starts_raw, starts_literal, End, Skipped, Quoted, RuleMatch, rule_match, takes_opener, match_in, Context, Macro, CText, ScanState, AtLineEnd}
+use Rattle.cweb_scan.proofs.Common.{◌≡◌, ℕ, Bool, true, false, ◌&&◌, List, ◌∷◌, ◌++◌, refl, ap, ◌∙◌, if◌then◌else◌, codes, enter_in, begins, at_line_end, Effect, in_macro, in_c, reads_literals, IsPast, raw_match, literal_match, c_match, starts_raw, starts_literal, End, Skipped, Quoted, RuleMatch, rule_match, takes_opener, match_in, Context, Macro, CText, ScanState, AtLineEnd, arith}
 use Rattle.cweb_rules.proofs.Seams.{begins_line, starts_section_line}
 
 pub enter_quoted : (c : Context) (us : List (List ℕ)) (how : End) (s : ScanState)
@@ -18,14 +18,7 @@ c_prefix_literal effect takes_opener includes t p g h =
     rw (p.blank, p.line_end, p.comment, p.line_comment, p.section, p.code, g, h)
 
 pub past-line : (b : ℕ) (t more : List ℕ) → AtLineEnd more → IsPast (b ∷ t) → IsPast (b ∷ t ++ more)
-past-line b t more e p = record {
-  blank = p.blank;
-  line_end = p.line_end;
-  comment = begins_line (codes "/*") (b ∷ t) more refl e ∙ p.comment;
-  line_comment = begins_line (codes "//") (b ∷ t) more refl e ∙ p.line_comment;
-  section = starts_section_line b t more e ∙ p.section;
-  code = begins_line (codes "@") (b ∷ t) more refl e ∙ p.code;
-}
+past-line b t more e p = grind (arith, begins_line, starts_section_line)
 
 pub literal_first : (c : Context) (includes : Bool) (b : ℕ) (t : List ℕ) (f : RuleMatch)
     → reads_literals c ≡ true → begins (codes "\\") (b ∷ t) ≡ false

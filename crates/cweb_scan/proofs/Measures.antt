@@ -1,5 +1,5 @@
 -- How the calls of a builder change its size.
-use Rattle.cweb_scan.proofs.Common.{◌≤◌, ℕ, ◌+◌, Bool, true, false, List, [], ◌∷◌, ◌++◌, Option, Some, None, take, drop, ap, arith, take-append-drop, option_map, option_to_list, if◌then◌else◌, PartKind, Token, Blank, Part, is_macro, PartsSoFar, with_opened_part, with_pushed_token, part_with_token, with_dropped_layout, with_closed_part, before_last, without_last, without_blank, without_layout, protected_count, is_newline, is_layout, at_close, sum_over, part_size, open_size, parts_size, total-append}
+use Rattle.cweb_scan.proofs.Common.{◌≤◌, ℕ, ◌+◌, Bool, List, [], ◌∷◌, ◌++◌, Option, Some, None, take, drop, ap, arith, take-append-drop, option_map, option_to_list, PartKind, Token, Blank, Part, PartsSoFar, with_opened_part, with_pushed_token, part_with_token, with_dropped_layout, with_closed_part, before_last, without_last, without_blank, without_layout, protected_count, is_layout, at_close, sum_over, part_size, open_size, parts_size, total-append}
 
 module _ (f : Token → ℕ) where
   open_pushed : (t : Token) (o : Option Part) → open_size f (option_map (part_with_token t) o) ≤ open_size f o + f t
@@ -14,9 +14,7 @@ module _ (f : Token → ℕ) where
 
   before_last-size : (test : Token → Bool) (t : Token) (us : List Token)
       → sum_over f (before_last test t us) ≤ f t + sum_over f us
-  before_last-size test t [] =
-      elim (test t) as (λ v. sum_over f (if v then [] else t ∷ []) ≤ f t + 0)
-      [ true ↦ omega arith | false ↦ omega arith ]
+  before_last-size test t [] = grind arith
   before_last-size test t (u ∷ us) = omega arith
 
   without_last-size : (test : Token → Bool) (ts : List Token) → sum_over f (without_last test ts) ≤ sum_over f ts
@@ -31,25 +29,14 @@ module _ (f : Token → ℕ) where
   without_blank-size (t ∷ []) = omega arith
 
   at_close-size : (p : Part) → part_size f (at_close p) ≤ part_size f p
-  at_close-size p = elim (is_macro p.kind) as
-      (λ v. part_size f (if v then record p { tokens = without_blank (without_last is_newline p.tokens) } else p)
-      ≤ part_size f p) [
-        | true ↦
-            omega (arith, without_blank-size (without_last is_newline p.tokens), without_last-size is_newline p.tokens)
-        | false ↦ omega arith
-      ]
+  at_close-size p = grind (arith, without_blank-size, without_last-size)
 
   open_closed : (o : Option Part) → sum_over (part_size f) (option_to_list (option_map at_close o)) ≤ open_size f o
   open_closed None = omega arith
   open_closed (Some p) = omega (arith, at_close-size p)
 
   pub closed-size : (v : PartsSoFar) → parts_size f (with_closed_part v) ≤ parts_size f v
-  closed-size v =
-      omega (
-        arith,
-        total-append (part_size f) v.closed (option_to_list (option_map at_close v.current)),
-        open_closed v.current,
-      )
+  closed-size v = grind (arith, total-append, open_closed)
 
   layout-size : (n : ℕ) (ts : List Token) → sum_over f (take n ts ++ without_last is_layout (drop n ts)) ≤ sum_over f ts
   layout-size n ts = omega (

@@ -1,5 +1,5 @@
 -- How items begin.
-use Rattle.cweb_scan.proofs.Common.{◌≡◌, ℕ, Bool, true, false, ◌&&◌, ◌==◌, List, [], ◌∷◌, refl, sym, ◌∙◌, subst, codes, eqb-true, begins, ReaderModel, OpenItem, ScanState, and_parts}
+use Rattle.cweb_scan.proofs.Common.{◌≡◌, ℕ, Bool, true, false, ◌&&◌, ◌==◌, List, [], ◌∷◌, codes, eqb-true, begins, ReaderModel, OpenItem, ScanState, and_parts, arith}
 
 abbrev pub opened : ScanState → Bool → OpenItem → ReaderModel
 opened s g item = record { state = s; item = item; begun = g }
@@ -15,7 +15,4 @@ two x y (a ∷ b ∷ w) h =
 -- No literal begins with `\`.
 pub not_back : (starts : List ℕ → Bool) (b : ℕ) (t : List ℕ) → starts (92 ∷ t) ≡ false → starts (b ∷ t) ≡ true
     → begins (codes "\\") (b ∷ t) ≡ false
-not_back starts b t none h = (elim (92 == b) as (λ v. (92 == b) ≡ v → (v && true) ≡ false) [
-  | true ↦ λ e. let wrong = sym none ∙ subst (λ n. starts (n ∷ t) ≡ true) (sym (eqb-true 92 b e)) h in cc
-  | false ↦ λ e. refl
-]) refl
+not_back starts b t none h = grind (arith, eqb-true)

@@ -1,5 +1,5 @@
 -- Comments, as one slice of the source.
-use Rattle.cweb_scan.proofs.Common.{◌≡◌, ℕ, ◌+◌, Bool, true, false, ◌||◌, List, [], ◌∷◌, length, take, drop, refl, ap, sym, ◌∙◌, subst, codes, Place, begins, at_line_ends, Look, look_in_comment, reach, reach_size, comment_match, RuleMatch, Comment, End, Cut, Open, Reached, reached, is_unclosed, opens_in, Context, Limbo, TeX, Definition, match_in, comment_line_end, pass_comment, blank, on, enter_in, names_include, ScanState, AppliesOver, passed, ended_as, reads_c, with_line}
+use Rattle.cweb_scan.proofs.Common.{◌≡◌, ℕ, ◌+◌, Bool, true, List, [], ◌∷◌, length, take, drop, refl, ap, sym, ◌∙◌, codes, Place, begins, at_line_ends, Look, look_in_comment, reach, reach_size, comment_match, Comment, End, Cut, Open, Reached, reached, is_unclosed, opens_in, Context, Limbo, TeX, Definition, match_in, comment_line_end, pass_comment, blank, on, enter_in, ScanState, AppliesOver, passed, ended_as, reads_c, with_line, arith}
 use Rattle.cweb_rules.specs.declared.items.Item.TheVariants as item
 use Rattle.cweb_rules.specs.inner.LineItems.{opens_comment, goes_on}
 use Rattle.cweb_rules.proofs.Looks.{comment-units}
@@ -16,11 +16,7 @@ abbrev look : List ℕ → Look
 look t = look_in_comment (begins (codes "*/")) 2 t
 
 comment_crosses : CrossesNewline look
-comment_crosses = crosses look (comment-units (begins (codes "*/")) 2) comment_local newline
-  where
-    newline : (line : List ℕ) → look (10 ∷ line) ≡ look (10 ∷ [])
-    newline [] = refl
-    newline (b ∷ line) = refl
+comment_crosses = grind (arith, crosses, comment-units, comment_local)
 
 -- As the code sees it.
 pub comment_goes_on : (t : List ℕ) → goes_on look t ≡ is_unclosed (reach look Open t).how
@@ -49,11 +45,7 @@ seen : (c : Context) (includes : Bool) (w : List ℕ) → reads_c c ≡ true
     × (opens_in c (47 ∷ 42 ∷ w) ≡ opens_comment (47 ∷ 42 ∷ w))
 seen Limbo includes w h = cc
 seen TeX includes w h = cc
-seen (Definition begun) includes w h = (refl, or-none (opens_comment (47 ∷ 42 ∷ w)))
-  where
-    or-none : (v : Bool) → (v || false) ≡ v
-    or-none true = refl
-    or-none false = refl
+seen (Definition begun) includes w h = grind arith
 seen _ includes w h = (refl, refl)
 
 enter_comment : (c : Context) (how : End) (s : ScanState) → enter_in c (Comment how) s ≡ s
@@ -62,15 +54,7 @@ enter_comment _ how s = refl
 
 pub is_comment : (s : ScanState) (u : List ℕ) → reads_c s.context ≡ true → begins (codes "/*") u ≡ true
     → IsNext s u (comment_match u) (opens_comment u)
-is_comment s u c h =
-    let p = two 47 42 u h in
-    subst (λ (v : List ℕ). IsNext s v (comment_match v) (opens_comment v)) p.1 (let f = seen s.context
-    (names_include s) p.0 c in record {
-      is = f.0;
-      opens_is = f.1;
-      stays = ap (λ (v : RuleMatch). enter_in s.context v.kind s) f.0
-          ∙ enter_comment s.context (reach look Cut p.0).how s;
-    })
+is_comment s u c h = grind (arith, two, seen, enter_comment)
 
 pub comment_over : (w line : List ℕ) → begins (codes "/*") w ≡ true → opens_comment w ≡ true
     → (opens_comment (with_line w line) ≡ goes_on look line)

@@ -1,5 +1,5 @@
 -- Lexemes over some lines: each is one slice of the source.
-use Rattle.cweb_scan.proofs.Common.{◌≡◌, ◌≤◌, ◌<◌, ℕ, suc, ◌+◌, ◌*◌, Bool, true, false, List, [], ◌∷◌, ◌++◌, length, take, drop, refl, ap, sym, ◌∙◌, subst, arith, if◌then◌else◌, length-append, append_assoc, append-nil, take-append-add, drop-append-add, drop_all, Place, begins, is_line_end, at_line_ends, reach, reach_size, RuleMatch, Cut, IsLine, IsLine-take, opens_in, Reading, each_line_end, next_line, enter_in, item, after_lexeme, lex, next_match, ScanState, weight, AppliesOver, passed, ReaderModel, MakesProgress, BeginsLine, Between, Pending, holding, with_line, IsPending, IsStored, item_of, is_pending, is_between, drop-append-le, length-drop, get_or, ends-append, Look, and_parts, and_from, ◌==◌, HasItemRoom, move_to}
+use Rattle.cweb_scan.proofs.Common.{◌≡◌, ◌≤◌, ◌<◌, ℕ, ◌+◌, ◌*◌, Bool, true, false, List, [], ◌∷◌, ◌++◌, length, take, drop, refl, ap, sym, ◌∙◌, arith, if◌then◌else◌, length-append, append_assoc, append-nil, take-append-add, drop-append-add, drop_all, Place, begins, is_line_end, at_line_ends, reach, reach_size, RuleMatch, Cut, IsLine, IsLine-take, opens_in, Reading, each_line_end, next_line, enter_in, item, after_lexeme, lex, next_match, ScanState, weight, AppliesOver, passed, ReaderModel, MakesProgress, BeginsLine, Between, Pending, holding, with_line, IsPending, IsStored, item_of, is_pending, is_between, drop-append-le, length-drop, get_or, ends-append, Look, and_parts, and_from, ◌==◌, HasItemRoom, move_to}
 use Rattle.cweb_scan.specs.declared.reader.open.Open as code
 use Rattle.cweb_scan.specs.declared.reader.open.Open.TheVariants as kinds
 use Rattle.std.proofs.Common.{drop-cons}
@@ -40,9 +40,7 @@ each-passed f (b ∷ t) ps s later h = one_passed f t ps s later (is_line_end b)
 
 pub passed_next : (f : Place → ScanState → ScanState) (ps : List Place) (i : ℕ) (d : Place) (s : ScanState)
     → i < length ps → passed f (drop (i + 1) ps) (f (get_or ps i d) s) ≡ passed f (drop i ps) s
-passed_next f ps i d s h =
-    let e : i + 1 ≡ suc i = omega arith in
-    ap (λ k. passed f (drop k ps) (f (get_or ps i d) s)) e ∙ sym (ap (λ qs. passed f qs s) (drop-cons ps i d h))
+passed_next f ps i d s h = grind (arith, drop-cons)
 
 -- Moves over lines need no room.
 pub moved_room : (n : ℕ) (ps : List Place) (s : ScanState) → HasItemRoom n s → HasItemRoom n (passed move_to ps s)
@@ -57,19 +55,7 @@ moved_room n (p ∷ ps) s h = moved_room n ps (move_to p s) (record {
 -- An item that its line leaves open.
 pub holds_at : (u : List ℕ) (h new : ReaderModel) → h.item ≡ Between → 1 ≤ length u → new ≡ holding u h
     → MakesProgress (length u) u h new
-holds_at u h new none some is =
-    subst (λ (k : ReaderModel). MakesProgress (length u) u h k) (sym is)
-    (subst (λ i. MakesProgress (length u) u (opened h.state h.begun i) (holding u h)) (sym none) (record {
-      some = some;
-      last = λ e. refl;
-      taken = record {
-        begun = refl;
-        within = omega arith;
-        adds = omega arith;
-        same = λ later more e. ap (λ (v : List ℕ). lex (reading h.state later) (u ++ (v ++ more)))
-            (drop_all (length u) u (omega arith));
-      };
-    }))
+holds_at u h new none some is = grind (arith, reading, drop_all)
 
 pub with_line-is : (w line : List ℕ) → with_line w line ≡ w ++ 10 ∷ line
 with_line-is w line = append_assoc w (10 ∷ []) line
@@ -82,22 +68,7 @@ pub pending_ends : (w line : List ℕ) (ps : List Place) (q : Place) (s new : Sc
     → n ≡ length w + 1 + k → TakesWhole n (with_line w line) (ps ++ q ∷ []) s new
     → BeginsLine q line k (opened s g (Pending w ps)) (between new g)
 pending_ends w line ps q s new g n k begun past t =
-    let size : n ≡ length (w ++ 10 ∷ []) + k = omega (arith, length-append w (10 ∷ []), past) in
-    record {
-      first = λ none. absurd (cc (begun, none));
-      next = λ old. record {
-        begun = begun;
-        same = λ later more e.
-            ap (λ (v : List ℕ). lex (reading new later) (v ++ more))
-            (sym (ap (λ j. drop j (with_line w line)) size ∙ drop-append-add (w ++ 10 ∷ []) line k))
-            ∙ t.same later more e
-            ∙ (λ i. lex (reading s (append_assoc ps (q ∷ []) later i)) (with_line-is w line i ++ more))
-            ∙ ap (λ (v : List ℕ). lex (reading s (ps ++ q ∷ later)) v) (append_assoc w (10 ∷ line) more);
-      };
-      within = omega (arith, t.within, with_line-length w line, past);
-      adds = omega (arith, t.adds, past);
-      last = λ e. cc;
-    }
+    grind (arith, length-append, reading, drop-append-add, append_assoc, with_line-is, with_line-length)
 
 -- Its newlines.
 pub pending_newlines : (w line : List ℕ) (k : ℕ) → IsLine line
@@ -120,9 +91,7 @@ all_newlines w line h =
 -- So many newlines fit into the bytes.
 pub newlines_fit : (t : List ℕ) → at_line_ends 1 t ≤ length t
 newlines_fit [] = omega arith
-newlines_fit (b ∷ t) = elim (is_line_end b)
-    as (λ v. (if v then 1 + at_line_ends 1 t else at_line_ends 1 t) ≤ length (b ∷ t))
-    [ true ↦ omega (arith, newlines_fit t) | false ↦ omega (arith, newlines_fit t) ]
+newlines_fit (b ∷ t) = grind (arith, newlines_fit t)
 
 pub begins_more : (sign w more : List ℕ) → begins sign w ≡ true → begins sign (w ++ more) ≡ true
 begins_more [] w more h = refl
@@ -155,18 +124,7 @@ pending-weight w ps s = omega (arith, run-walks weighs (reading s (ps ++ [])) (w
 pub over : (look : List ℕ → Look) → CrossesNewline look → (k : ℕ) (w line : List ℕ) → k ≤ length w
     → goes_on look (drop k w) ≡ true → (goes_on look (drop k (with_line w line)) ≡ goes_on look line)
     × (k + reach_size (reach look Cut (drop k (with_line w line))) ≡ length w + 1 + reach_size (reach look Cut line))
-over look o k w line fits h =
-    let inner : drop k (with_line w line) ≡ drop k w ++ 10 ∷ line =
-    ap (drop k) (with_line-is w line) ∙ drop-append-le k w (10 ∷ line) fits in (
-      ap (goes_on look) inner ∙ crossed_how look o (drop k w) line h,
-      omega (
-        arith,
-        ap (λ (v : List ℕ). reach_size (reach look Cut v)) inner,
-        crossed_size look o (drop k w) line h,
-        length-drop k w,
-        fits,
-      ),
-    )
+over look o k w line fits h = grind (arith, with_line-is, drop-append-le, crossed_how, crossed_size, length-drop)
 
 pub over_ended : (look : List ℕ → Look) → CrossesNewline look → (k : ℕ) (w : List ℕ) → k ≤ length w
     → goes_on look (drop k w) ≡ true → k + reach_size (reach look Cut (drop k w)) ≡ length w
@@ -192,9 +150,4 @@ pub record Holds (kind : code.Open) (s : ScanState) (g : Bool) (w : List ℕ) (p
 pub pending_now : (kind : code.Open) (s : ScanState) (g : Bool) (w : List ℕ) (ps : List Place) (h : ReaderModel)
     → opened s g (item_of kind w ps) ≡ h → is_pending h.item ≡ true → IsStored kind s.context w ps
     → Holds kind s g w ps h
-pending_now kind s g w ps h is pending stored =
-    let k = pending_kind kind w ps (ap (λ (v : ReaderModel). is_pending v.item) is ∙ pending) in record {
-      view = ap (λ i. opened s g i) (sym (pending_as kind w ps k)) ∙ is;
-      pending = k;
-      source = stored k;
-    }
+pending_now kind s g w ps h is pending stored = grind (arith, pending_kind, pending_as)

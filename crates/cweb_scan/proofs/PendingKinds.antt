@@ -1,5 +1,5 @@
 -- Pending items of any kind, with the next line.
-use Rattle.cweb_scan.proofs.Common.{◌≡◌, ◌≤◌, ℕ, ◌+◌, Bool, true, false, ◌||◌, List, [], ◌∷◌, ◌++◌, length, take, refl, ap, sym, ◌∙◌, subst, arith, codes, length-append, Place, begins, at_line_ends, look_in_comment, look_in_name, look_in_literal, look_in_raw, opens_in, IsLine, AtLineEnd, Context, literal_prefix, enter_in, next_match, RuleMatch, ScanState, is_between, IsItem, IsPending, IsPast, starts_name, takes_opener, with_line, AppliesOver, lex, ◌-◌, comment_match, name_match, literal_match, raw_match, HasItemRoom, CanTake, ReaderModel, Pending, cost, too_many, ◌<◌}
+use Rattle.cweb_scan.proofs.Common.{◌≡◌, ◌≤◌, ℕ, ◌+◌, Bool, true, false, List, [], ◌∷◌, ◌++◌, length, take, refl, ap, sym, ◌∙◌, subst, arith, codes, length-append, Place, begins, at_line_ends, look_in_comment, look_in_name, look_in_literal, look_in_raw, opens_in, IsLine, AtLineEnd, Context, literal_prefix, enter_in, next_match, RuleMatch, ScanState, is_between, IsItem, IsPending, IsPast, starts_name, takes_opener, with_line, AppliesOver, lex, ◌-◌, comment_match, name_match, literal_match, raw_match, HasItemRoom, CanTake, ReaderModel, Pending, cost, too_many, ◌<◌}
 use Rattle.cweb_scan.proofs.OpeningSteps.{opened}
 use Rattle.cweb_rules.specs.inner.LineItems.{goes_on, opens_comment, opens_name, opens_literal, opens_raw}
 use Rattle.cweb_rules.specs.inner.LineItems.{raw_closer_of}
@@ -29,33 +29,15 @@ past_more [] more e some p = absurd (omega (arith, some))
 past_more (b ∷ t) more e some p = past-line b t more e p
 
 name_more : (w more : List ℕ) → starts_name w ≡ true → starts_name (w ++ more) ≡ true
-name_more w more h = (elim (begins (codes "@<") w) as (λ v. begins (codes "@<") w ≡ v
-    → (v || begins (codes "@(") w) ≡ true → starts_name (w ++ more) ≡ true) [
-      | true ↦ λ e g. ap (λ v. v || begins (codes "@(") (w ++ more)) (begins_more (codes "@<") w more e)
-      | false ↦ λ e g. either (begins (codes "@<") (w ++ more)) (begins (codes "@(") (w ++ more))
-          (begins_more (codes "@(") w more g)
-    ]) refl h
-  where
-    either : (v x : Bool) → x ≡ true → (v || x) ≡ true
-    either true x e = refl
-    either false x e = e
+name_more w more h = grind (arith, more, begins_more)
 
 more : (kind : code.Open) (c : Context) (w line : List ℕ) → is_between kind ≡ false → IsItem kind c w
     → IsItem kind c (w ++ 10 ∷ line)
 more Between c w line h i = cc
 more Comment c w line h i = (i.0, begins_more (codes "/*") w (10 ∷ line) i.1)
 more Name c w line h i = (i.0, i.1, name_more w (10 ∷ line) i.2)
-more Literal c w line h i = (
-  i.0,
-  past_more w (10 ∷ line) refl (item_some Literal c w h i) i.1,
-  starts_raw_line w (10 ∷ line) refl ∙ i.2,
-  starts_literal_line w (10 ∷ line) refl ∙ i.3,
-)
-more RawLiteral c w line h i = (
-  i.0,
-  past_more w (10 ∷ line) refl (item_some RawLiteral c w h i) i.1,
-  starts_raw_line w (10 ∷ line) refl ∙ i.2,
-)
+more Literal c w line h i = grind (arith, past_more, item_some, starts_raw_line, starts_literal_line)
+more RawLiteral c w line h i = grind (arith, past_more, item_some, starts_raw_line)
 
 pub item_more : (kind : code.Open) (c : Context) (w line : List ℕ) → is_between kind ≡ false → IsItem kind c w
     → IsItem kind c (with_line w line)
@@ -164,11 +146,7 @@ applies_to s new t u ps qs n text places h = subst (λ (v : List ℕ). AppliesOv
 pub stays_with : (kind : code.Open) (s : ScanState) (w line : List ℕ) (ps : List Place) (q : Place)
     → is_between kind ≡ false → IsPending kind s.context w ps → IsLine line
     → opens_in s.context (with_line w line) ≡ true → IsPending kind s.context (with_line w line) (ps ++ q ∷ [])
-stays_with kind s w line ps q k h clean opens = record {
-  item = item_more kind s.context w line k h.item;
-  unclosed = opens;
-  newlines = omega (arith, all_newlines w line clean, h.newlines, length-append ps (q ∷ []));
-}
+stays_with kind s w line ps q k h clean opens = grind (arith, item_more, all_newlines, length-append)
 
 -- The item with a line that ends it.
 pub record EndsWith (kind : code.Open) (s : ScanState) (w line : List ℕ) (ps : List Place) (q : Place) : Type 0 where
@@ -228,12 +206,7 @@ ready_at_end kind s w ps k h room = record {
 pub pending_room : (h : ReaderModel) (s : ScanState) (g : Bool) (w : List ℕ) (ps : List Place) (n : ℕ)
     → opened s g (Pending w ps) ≡ h → at_line_ends 1 w ≡ length ps → 1 ≤ n → cost h + n < too_many
     → HasItemRoom (length ps + n) s
-pending_room h s g w ps n view lines some room = record {
-  for_tokens = omega (arith, ap cost view, room, newlines_fit w, lines);
-  for_a_part = omega (arith, ap cost view, some, room);
-  for_an_occurrence = omega (arith, ap cost view, some, room);
-  for_a_section = omega (arith, ap cost view, some, room);
-}
+pending_room h s g w ps n view lines some room = grind (arith, newlines_fit)
 
 pub is_comment_kind : (kind : code.Open) → is_between kind ≡ false → (kind ≡ Name → ⊥) → (kind ≡ Literal → ⊥)
     → (kind ≡ RawLiteral → ⊥) → kind ≡ Comment

@@ -1,5 +1,5 @@
 -- Literals that are open at the end of their line.
-use Rattle.cweb_scan.proofs.Common.{ℕ, ◌≡◌, ◌≤◌, ◌+◌, Bool, true, false, ◌&&◌, List, [], ◌∷◌, ◌++◌, length, drop, refl, ap, ◌∙◌, arith, codes, length-drop, drop-append-le, begins, look_in_literal, look_in_raw, reach, reach_size, raw_match, literal_match, literal_prefix, quote_of, raw_prefix, delimiter, starts_raw, starts_literal, RuleMatch, Quoted, End, Cut, Open, AtLineEnd, IsLocal, is_unclosed, opens_in, c_opens, Context, Macro, CText, enter_in, names_include, ScanState, reads_literals, IsPast, with_line, at_line_end, in_macro, in_c, and_parts, Effect, c_match, rule_match, if◌then◌else◌}
+use Rattle.cweb_scan.proofs.Common.{ℕ, ◌≡◌, ◌≤◌, ◌+◌, Bool, true, false, ◌&&◌, List, [], ◌∷◌, ◌++◌, length, drop, refl, ap, ◌∙◌, arith, codes, length-drop, drop-append-le, begins, look_in_literal, look_in_raw, reach, reach_size, raw_match, literal_match, literal_prefix, quote_of, raw_prefix, starts_raw, starts_literal, RuleMatch, Quoted, End, Cut, Open, AtLineEnd, IsLocal, is_unclosed, opens_in, c_opens, Context, Macro, CText, enter_in, names_include, ScanState, reads_literals, IsPast, with_line, at_line_end, in_macro, in_c, and_parts, Effect, c_match, rule_match, if◌then◌else◌}
 use Rattle.cweb_rules.specs.inner.LineItems.{opens_raw, opens_literal, goes_on, raw_opener_len, raw_closer_of}
 use Rattle.cweb_rules.proofs.LineDelimiters.{raw_prefix-line, delimiter-line, sign-fits, has_delimiter-size, closing_sign-in_line}
 use Rattle.cweb_rules.proofs.LineLiterals.{literal_prefix-line, is_quoted-size}
@@ -14,21 +14,10 @@ use Rattle.cweb_scan.proofs.OpeningSteps.{not_back}
 -- Its opener and closer are in its first line.
 pub raw_same : (w more : List ℕ) → AtLineEnd more → starts_raw w ≡ true
     → (raw_opener_len (w ++ more) ≡ raw_opener_len w) × (raw_closer_of (w ++ more) ≡ raw_closer_of w)
-raw_same w more e starts =
-    let m = raw_prefix w + 2 in
-    let start = and_parts (begins (codes "R\"") (drop (raw_prefix w) w)) _ starts in
-    let two = sign-fits w start.0 in
-    let prefix = raw_prefix-line w more e in
-    let name : delimiter (drop (raw_prefix (w ++ more) + 2) (w ++ more)) ≡ delimiter (drop m w) =
-    ap (λ n. delimiter (drop (n + 2) (w ++ more))) prefix
-    ∙ ap delimiter (drop-append-le m w more two) ∙ delimiter-line (drop m w) more e in
-    ((λ i. prefix i + 2 + length (name i) + 1), ap (λ d. codes ")" ++ d ++ codes "\"") name)
+raw_same w more e starts = grind (arith, and_parts, sign-fits, raw_prefix-line, drop-append-le, delimiter-line)
 
 pub raw_fits : (w : List ℕ) → starts_raw w ≡ true → raw_opener_len w ≤ length w
-raw_fits w starts =
-    let m = raw_prefix w + 2 in
-    let start = and_parts (begins (codes "R\"") (drop (raw_prefix w) w)) _ starts in
-    omega (arith, sign-fits w start.0, has_delimiter-size (drop m w) start.1, length-drop m w)
+raw_fits w starts = grind (arith, and_parts, sign-fits, has_delimiter-size, length-drop)
 
 -- A literal in a macro or in C text.
 opens_first : (c : Context) (b : ℕ) (t : List ℕ) (v : Bool) → reads_literals c ≡ true
@@ -107,19 +96,11 @@ quote_in t = quote_of (drop (literal_prefix t) t)
 
 pub quote_as : (w v u quoted : List ℕ) (p q : ℕ) → v ≡ w → u ≡ w → p ≡ literal_prefix v → quoted ≡ drop p u
     → q ≡ quote_of quoted → q ≡ quote_in w
-quote_as w v u quoted p q same pending prefix back quote = quote
-    ∙ ap quote_of (back ∙ (λ i. drop (prefix i) (pending i)))
-    ∙ ap (λ (t : List ℕ). quote_of (drop (literal_prefix t) w)) same
+quote_as w v u quoted p q same pending prefix back quote = grind arith
 
 literal_same : (w more : List ℕ) → AtLineEnd more → starts_literal w ≡ true
     → (literal_prefix (w ++ more) ≡ literal_prefix w) × (quote_in (w ++ more) ≡ quote_in w)
-literal_same w more e starts =
-    let n = literal_prefix w in
-    let prefix = literal_prefix-line w more e in (
-      prefix,
-      ap (λ k. quote_of (drop k (w ++ more))) prefix ∙ ap (λ v. if v then 39 else 34)
-          (drop_line (codes "'") n w more refl e (omega (arith, is_quoted-size n w starts))),
-    )
+literal_same w more e starts = grind (arith, literal_prefix-line, drop_line, is_quoted-size)
 
 pub literal_over : (w line : List ℕ) → starts_literal w ≡ true → opens_literal w ≡ true
     → (opens_literal (with_line w line) ≡ goes_on (look_in_literal (quote_in w)) line)
@@ -137,6 +118,4 @@ literal_over w line starts h =
     )
 
 pub literal_ended : (w : List ℕ) → starts_literal w ≡ true → opens_literal w ≡ true → (literal_match w).size ≡ length w
-literal_ended w starts h = over_ended (look_in_literal (quote_in w)) (literal_crosses (quote_in w))
-    (literal_prefix w + 1) w
-    (is_quoted-size (literal_prefix w) w starts) h
+literal_ended w starts h = grind (arith, over_ended, literal_crosses, is_quoted-size)

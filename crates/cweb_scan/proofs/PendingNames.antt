@@ -1,5 +1,5 @@
 -- Names, as one slice of the source.
-use Rattle.cweb_scan.proofs.Common.{◌≡◌, ◌≤◌, prefix_len, is_skipped, ℕ, ◌+◌, Bool, true, false, ◌||◌, List, [], ◌∷◌, length, take, drop, refl, ap, sym, ◌∙◌, subst, arith, codes, if◌then◌else◌, nat_lt, drop-sum, Place, begins, at_line_ends, look_in_name, Reach, reach, body, reach_size, unescaped, name_match, opener_after, End, Cut, Open, Reached, reached, is_unclosed, opens_in, Context, Limbo, Definition, CText, match_in, occurrence, move_to, on, names_include, next_match, ScanState, AppliesOver, passed, ended_as, reads_names, is_head, starts_name, takes_opener, with_line}
+use Rattle.cweb_scan.proofs.Common.{◌≡◌, ◌≤◌, prefix_len, is_skipped, ℕ, ◌+◌, Bool, true, false, List, [], ◌∷◌, length, take, drop, refl, ap, sym, ◌∙◌, arith, codes, if◌then◌else◌, nat_lt, drop-sum, Place, begins, at_line_ends, look_in_name, Reach, reach, reach_size, unescaped, name_match, opener_after, End, Cut, Open, Reached, reached, is_unclosed, opens_in, Context, Limbo, Definition, CText, match_in, occurrence, move_to, on, ScanState, AppliesOver, passed, ended_as, reads_names, is_head, starts_name, takes_opener, with_line}
 use Rattle.cweb_rules.specs.declared.items.Item.TheVariants as item
 use Rattle.cweb_rules.specs.inner.LineItems.{opens_name, goes_on}
 use Rattle.cweb_rules.proofs.OverLineEnds.{goes_on_is}
@@ -8,18 +8,14 @@ use Rattle.cweb_rules.proofs.Sizes.{begins-size}
 use Rattle.cweb_rules.proofs.UnitNewlines.{units-prefix}
 use Rattle.cweb_scan.proofs.Ends.{item-some, reach-at_end, size-at_end, how-at_end}
 use Rattle.cweb_scan.proofs.FirstMatchTaken.{enter_same}
-use Rattle.cweb_scan.proofs.FurtherLiterals.{HasNone, none_before, text_stays}
+use Rattle.cweb_scan.proofs.FurtherLiterals.{none_before, text_stays}
 use Rattle.cweb_scan.proofs.CrossedLineEnds.{CrossesNewline, crosses}
 use Rattle.cweb_scan.proofs.PendingItems.{IsNext, each-passed, over, over_ended}
 use Rattle.cweb_scan.proofs.OpeningSteps.{two}
 use Rattle.cweb_scan.proofs.TakenItems.{reading}
 
 name_crosses : CrossesNewline look_in_name
-name_crosses = crosses look_in_name name-units name-local newline
-  where
-    newline : (line : List ℕ) → look_in_name (10 ∷ line) ≡ look_in_name (10 ∷ [])
-    newline [] = refl
-    newline (b ∷ line) = refl
+name_crosses = grind (arith, crosses, name-units, name-local)
 
 -- As the code sees it.
 pub name_goes_on : (t : List ℕ) → goes_on look_in_name t ≡ is_unclosed (reach look_in_name Open t).how
@@ -67,13 +63,7 @@ name_applies t ps r opener taken s new is after take_is lines made =
 pub name_spelled : (inner x : List ℕ) (r : Reached) (plain : ℕ) → r ≡ reached (reach look_in_name Open inner)
     → plain ≡ prefix_len is_skipped inner → plain ≡ r.size → x ≡ take plain inner
     → x ≡ unescaped (reach look_in_name Open inner).units
-name_spelled inner x r plain is first all text =
-    let units = (reach look_in_name Open inner).units in
-    let same : x ≡ body (reach look_in_name Open inner) = text
-    ∙ ap (λ n. take n inner) (all ∙ ap (λ (v : Reached). v.size) is)
-    ∙ units-prefix look_in_name Open inner (item-some item.Name) in
-    same ∙ sym (text_stays units (subst HasNone (sym (ap (λ n. take n inner) first) ∙ sym text
-    ∙ same) (none_before inner)))
+name_spelled inner x r plain is first all text = grind (arith, units-prefix, item-some, text_stays, none_before)
 
 -- `@<` or `@(` begins a name.
 abbrev takes_in : Context → Bool
@@ -99,30 +89,10 @@ takes_same _ s h = ap takes_in h
 
 pub is_name : (s : ScanState) (u : List ℕ) → reads_names s.context ≡ true → is_head s.context ≡ false
     → starts_name u ≡ true → IsNext s u (name_match (takes_opener s) u) (opens_name u)
-is_name s u c head h = (elim (begins (codes "@<") u) as (λ v. begins (codes "@<") u ≡ v
-    → (v || begins (codes "@(") u) ≡ true → IsNext s u (name_match (takes_opener s) u) (opens_name u)) [
-      | true ↦ λ e g. let p = two 64 60 u e in subst (λ (v : List ℕ). IsNext s v (name_match (takes_opener s) v)
-          (opens_name v)) p.1
-          (named (64 ∷ 60 ∷ p.0) (section_names s.context (names_include s) p.0 c head))
-      | false ↦ λ e g. let p = two 64 40 u g in subst (λ (v : List ℕ). IsNext s v (name_match (takes_opener s) v)
-          (opens_name v)) p.1
-          (named (64 ∷ 40 ∷ p.0) (file_names s.context (names_include s) p.0 c head))
-    ]) refl h
-  where
-    named : (v : List ℕ) → (next_match s v ≡ name_match (takes_in s.context) v)
-        × (opens_in s.context v ≡ opens_name v) → IsNext s v (name_match (takes_opener s) v) (opens_name v)
-    named v f = record {
-      is = f.0 ∙ ap (λ w. name_match w v) (sym (takes_same s.context s refl));
-      opens_is = f.1;
-      stays = enter_same s.context (next_match s v).kind s head;
-    }
+is_name s u c head h = grind (arith, two, section_names, file_names, takes_same, enter_same)
 
 pub name_two : (w : List ℕ) → starts_name w ≡ true → 2 ≤ length w
-name_two w h = (elim (begins (codes "@<") w) as (λ v. begins (codes "@<") w ≡ v
-    → (v || begins (codes "@(") w) ≡ true → 2 ≤ length w) [
-      | true ↦ λ e g. begins-size (codes "@<") w e
-      | false ↦ λ e g. begins-size (codes "@(") w g
-    ]) refl h
+name_two w h = grind (arith, begins-size)
 
 pub name_over : (takes : Bool) (w line : List ℕ) → starts_name w ≡ true → opens_name w ≡ true
     → (opens_name (with_line w line) ≡ goes_on look_in_name line)

@@ -27,11 +27,7 @@ module _ (known : Place → Bool) where
   moved-known : (s : ScanState) (later : List Place) → AreKnown (reading s later)
       → AreKnown (next_line move_to (reading s later))
   moved-known s [] k = k
-  moved-known s (p ∷ later) k = (
-    k.0,
-    k.1,
-    record { here_is = k.2.later_are.0; begun_is = k.2.begun_is; later_are = k.2.later_are.1 },
-  )
+  moved-known s (p ∷ later) k = grind arith
 
   stays_known : Moves IsKnown (λ n w t b r m. AreKnown r → AreKnown m)
   stays_known = record {

@@ -1,5 +1,5 @@
 -- The effect of the law's lexemes on a state.
-use Rattle.cweb_scan.proofs.Common.{◌≡◌, ℕ, Bool, true, false, cond, ◌&&◌, ◌||◌, not, List, [], ◌∷◌, ◌++◌, Some, None, refl, ap, sym, ◌∙◌, subst, append_assoc, codes, bytes_eq, option_map, fold, fold-append, filter-append, append-nil, Place, part_with_token, Token, Blank, Newline, Mark, Reading, next_line, each_line_end, line_end, line_end_in, line_end_token, comment_line_end, blank, literal_unit, is_next_line, is_line_end, directive, directive_of, directive_tokens, directive_after, in_directive, is_c, is_some, is_punct, ends_line, ScanState, emit, move_to, open_part_tokens, tokens_of, InPlainC, HasReadTokens, significant, is_insignificant, is_hash, is_clean, and-false, and_parts, is_last_blank}
+use Rattle.cweb_scan.proofs.Common.{◌≡◌, ℕ, Bool, true, false, cond, ◌&&◌, ◌||◌, not, List, [], ◌∷◌, ◌++◌, refl, ap, sym, ◌∙◌, subst, append_assoc, codes, bytes_eq, fold, fold-append, filter-append, append-nil, Place, Token, Blank, Newline, Mark, Reading, next_line, each_line_end, line_end, line_end_in, line_end_token, comment_line_end, blank, literal_unit, is_next_line, is_line_end, directive, in_directive, is_c, is_some, is_punct, ScanState, emit, move_to, open_part_tokens, InPlainC, HasReadTokens, significant, is_hash, is_clean, and-false, and_parts, is_last_blank, arith}
 
 pub no_directive : (s : ScanState) → InPlainC s → in_directive s ≡ false
 no_directive s h = ap (λ o. is_c s.context && is_some o) h.no_directive ∙ and-false (is_c s.context)
@@ -9,11 +9,7 @@ nothing s h = record { plain = h; tokens = sym (append-nil (significant (open_pa
 
 pub and_then : (a b c : ScanState) (us vs : List Token) → HasReadTokens a b us → HasReadTokens b c vs
     → HasReadTokens a c (us ++ vs)
-and_then a b c us vs f g = record {
-  plain = g.plain;
-  tokens = g.tokens ∙ ap (λ ts. ts ++ vs) f.tokens ∙ append_assoc (significant (open_part_tokens a)) us vs;
-  faults = g.faults ∙ f.faults;
-}
+and_then a b c us vs f g = grind (arith, append_assoc)
 
 -- A blank emits nothing.
 pub blank_yields : (s : ScanState) → InPlainC s → blank s ≡ s
@@ -21,43 +17,12 @@ blank_yields s h = ap (λ v. cond (v && not (is_last_blank (directive s).last)) 
 
 pub emitted : (s : ScanState) (t : Token) → InPlainC s → is_hash t ≡ false
     → HasReadTokens s (emit t s) (significant (t ∷ []))
-emitted s t h plain =
-    let p = h.part in
-    let is_open : option_map (part_with_token t) s.contents.parts.current ≡ Some (part_with_token t p) =
-    ap (option_map (part_with_token t)) h.open_part in
-    let before : open_part_tokens s ≡ p.tokens = ap tokens_of h.open_part in
-    let now : open_part_tokens (emit t s) ≡ p.tokens ++ t ∷ [] = ap tokens_of is_open in
-    let d = directive_of p.tokens in
-    let none : d.tokens ≡ None = sym (ap (λ ts. (directive_of ts).tokens) before) ∙ h.no_directive in
-    record {
-      plain = record {
-        part = part_with_token t p;
-        open_part = is_open;
-        in_c = h.in_c;
-        no_directive = ap (λ ts. (directive_of ts).tokens) now
-            ∙ ap (λ e. e.tokens) (fold-append directive_after (record { tokens = None; last = None }) p.tokens (t ∷ []))
-            ∙ ap (λ o. directive_tokens o d.last t) none
-            ∙ ap (λ v. cond (v && ends_line d.last) (Some []) None) plain;
-      };
-      tokens = ap significant now ∙ filter-append (λ u. not (is_insignificant u)) p.tokens (t ∷ [])
-          ∙ sym (ap (λ ts. significant ts ++ significant (t ∷ [])) before);
-      faults = refl;
-    }
+emitted s t h plain = grind (arith, no_directive, fold-append, filter-append)
 
 -- The place and the `folded` flag may change.
 pub placed : (s t : ScanState) (ts : List Token) (p : Place) (folded : Bool)
     → HasReadTokens s t ts → HasReadTokens s (record t { here = p; folded = folded }) ts
-placed s t ts p folded h = record {
-  plain =
-      record {
-        part = h.plain.part;
-        open_part = h.plain.open_part;
-        in_c = h.plain.in_c;
-        no_directive = h.plain.no_directive;
-      };
-  tokens = h.tokens;
-  faults = h.faults;
-}
+placed s t ts p folded h = grind (arith, no_directive)
 
 pub moves : (p : Place) (s : ScanState) → InPlainC s → HasReadTokens s (move_to p s) []
 moves p s h = placed s s [] p true (nothing s h)

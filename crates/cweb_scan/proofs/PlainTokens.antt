@@ -1,5 +1,5 @@
 -- Reading a token's bytes and what follows them.
-use Rattle.cweb_scan.proofs.Common.{◌≡◌, ℕ, ◌+◌, ◌<◌, ◌/◌, ◌%◌, suc, zero, Bool, true, false, cond, ◌==◌, List, [], ◌∷◌, ◌++◌, Some, length, take, drop, refl, ap, ◌∙◌, arith, append_assoc, length-append, codes, decimal, digit_glyph, digits_onto, list_all, fold, take-append_seam, drop-append_seam, Token, Word, Number, Punct, first_is, JoinsAll, IsToken, is_token, is_quiet, begins_as, match_in, Kind, rule_match, CText, Effect, EmitAt, End, Closed, Reading, after_lexeme, some_include, names_include, next_match, lex, InPlainC, IsReadAs, ReadsAlone, doubled, significant, token_of, literal_token, spelling_of, is_hash, same_Some, and_from, nat_tests}
+use Rattle.cweb_scan.proofs.Common.{◌≡◌, ℕ, ◌+◌, ◌<◌, ◌/◌, ◌%◌, suc, zero, Bool, true, false, cond, ◌==◌, List, [], ◌∷◌, ◌++◌, Some, length, take, drop, refl, ap, ◌∙◌, arith, append_assoc, length-append, codes, decimal, digit_glyph, digits_onto, list_all, take-append_seam, drop-append_seam, Token, first_is, JoinsAll, IsToken, is_token, is_quiet, begins_as, match_in, Kind, rule_match, CText, Effect, EmitAt, End, Closed, Reading, after_lexeme, some_include, names_include, next_match, lex, InPlainC, IsReadAs, ReadsAlone, doubled, significant, token_of, literal_token, spelling_of, is_hash, same_Some, and_from, nat_tests}
 use Rattle.std.specs.Fmt.{digits}
 use Rattle.cweb_rules.specs.laws.Laws as rules
 use Rattle.cweb_rules.specs.Matches as kind
@@ -16,12 +16,7 @@ in_plain_c r t h =
 run_step : (r : Reading) (b : ℕ) (x : List ℕ) (k : Kind) (n : ℕ) → InPlainC r.state → match_in CText false (b ∷ x)
     ≡ rule_match k n → 0 < n
     → lex r (b ∷ x) ≡ lex (after_lexeme r (record { kind = k; bytes = take n (b ∷ x) })) (drop n (b ∷ x))
-run_step r b x k n h is some =
-    let t = b ∷ x in
-    let e = in_plain_c r t h ∙ is in
-    let size : (next_match r.state t).size ≡ n = ap (λ f. f.size) e in
-    ap (fold after_lexeme r) (pieces_first r b x (omega (arith, some, size)))
-    ∙ ap (λ f. lex (after_lexeme r (record { kind = f.kind; bytes = take f.size t })) (drop f.size t)) e
+run_step r b x k n h is some = grind (arith, in_plain_c, pieces_first)
 
 -- A lexeme with these bytes, whatever follows.
 run_over : (r : Reading) (d more : List ℕ) (k : Kind) → InPlainC r.state
@@ -97,15 +92,9 @@ literal_kinded units Closed d u t = record { token = refl; goes = λ joins more 
 literal_kinded units _ d u t = cc
 
 pub kinded : (k : Kind) (d : List ℕ) (u : Token) → token_of k d ≡ Some u → Kinded k d u
-kinded kind.Identifier d u t =
-    let same = same_Some (Word d) u t in
-    record { token = refl; goes = λ joins more h. ap (λ v. first_is (continues_token joins v) more) same ∙ h }
-kinded kind.Numeral d u t =
-    let same = same_Some (Number d) u t in
-    record { token = refl; goes = λ joins more h. ap (λ v. first_is (continues_token joins v) more) same ∙ h }
-kinded kind.Punctuator d u t =
-    let same = same_Some (Punct d) u t in
-    record { token = refl; goes = λ joins more h. ap (λ v. first_is (continues_token joins v) more) same ∙ h }
+kinded kind.Identifier d u t = grind (arith, same_Some)
+kinded kind.Numeral d u t = grind (arith, same_Some)
+kinded kind.Punctuator d u t = grind (arith, same_Some)
 kinded (kind.Quoted units how) d u t = literal_kinded units how d u t
 kinded (kind.Code c) d u t = code_kinded c d u t
 kinded _ d u t = cc

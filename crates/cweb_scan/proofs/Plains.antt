@@ -1,12 +1,11 @@
 -- C text outside directives: correctness of taking a lexeme that its first byte determines.
-use Rattle.cweb_scan.proofs.Common.{◌≡◌, ◌≤◌, ℕ, true, false, ◌&&◌, not, List, [], ◌∷◌, Option, Some, None, length, take, refl, ap, sym, ◌∙◌, subst, if◌then◌else◌, codes, option_map, prefix_len, part_with_token, Token, Word, Punct, Blank, Newline, Part, is_blank, is_word_byte, in_c, IsLine, c_rule, c_match_by, Context, CText, Rule, punctuator, directive, is_c, names_include, Applies, is_head, in_open_part, TakesPlain, ScanState, emit, tokens_of, directive_of, directive_tokens, ends_line, is_punct, directive_after, is_some, IsTied, IsPlainC, IsPlainToken, Directive, Stage, Outside, Bare}
+use Rattle.cweb_scan.proofs.Common.{◌≡◌, ◌≤◌, ℕ, true, false, ◌&&◌, List, Option, Some, None, length, take, refl, ap, sym, ◌∙◌, subst, if◌then◌else◌, codes, option_map, prefix_len, part_with_token, Token, Word, Punct, Newline, Part, is_blank, is_word_byte, in_c, IsLine, c_rule, c_match_by, Context, CText, Rule, directive, is_c, names_include, Applies, is_head, in_open_part, TakesPlain, ScanState, emit, tokens_of, directive_of, is_punct, is_some, IsTied, IsPlainC, IsPlainToken, Directive, Stage, Outside, arith}
 use Rattle.std.proofs.lemmas.List.Sums.{fold-append}
-use Rattle.cweb_scan.specs.inner.ScanParts.{next_open_stage, continues_line, is_after_line_end, is_outside, last_kind}
-use Rattle.cweb_scan.specs.inner.ScanParts.{next_stage, new_directive, after_token}
+use Rattle.cweb_scan.specs.inner.ScanParts.{is_outside}
+use Rattle.cweb_scan.specs.inner.ScanParts.{new_directive, after_token}
 use Rattle.cweb_scan.specs.inner.MatchSteps.{ends_macro_line}
 use Rattle.std.proofs.lemmas.Bool.{not-false}
 use Rattle.cweb_rules.specs.declared.rule.Rule.TheVariants as rule
-use Rattle.cweb_scan.specs.DirectiveTokens as spec
 use Rattle.cweb_scan.specs.declared.directive.Last.TheVariants as last
 use Rattle.cweb_scan.proofs.InLineItemSteps.{closed_at}
 use Rattle.cweb_scan.proofs.PlainFirsts.{IsSign}
@@ -19,43 +18,20 @@ no_more : (o : Option Part) (t : Token) → is_some (directive_of (tokens_of o))
     → is_punct (codes "#") (Some t) ≡ false
     → is_some (directive_of (tokens_of (option_map (part_with_token t) o))).tokens ≡ false
 no_more None t h plain = h
-no_more (Some p) t h plain =
-    let d = directive_of p.tokens in
-    ap (λ (e : spec.Directive). is_some e.tokens)
-    (fold-append directive_after (record { tokens = None; last = None }) p.tokens (t ∷ []))
-    ∙ none_opens d.tokens d.last t h plain
-  where
-    none_opens : (o : Option (List Token)) (l : Option Token) (t : Token) → is_some o ≡ false
-        → is_punct (codes "#") (Some t) ≡ false → is_some (directive_tokens o l t) ≡ false
-    none_opens None l t h plain = ap (λ v. is_some {T = List Token} (if v && ends_line l then Some [] else None)) plain
-    none_opens (Some ts) l t h plain = cc
+no_more (Some p) t h plain = grind (arith, fold-append)
 
 pub none_open : (s : ScanState) → IsPlainC s → is_some (directive s).tokens ≡ false
 none_open s h = ap (λ (c : Context). is_c c && is_some (directive s).tokens) (sym h.in_c) ∙ h.outside
 
 pub stays_plain : (s : ScanState) (t : Token) → IsPlainC s → IsPlainToken t → IsPlainC (emit t s)
-stays_plain s t h plain = record {
-  in_c = h.in_c;
-  outside = ap (λ (c : Context). is_c c && is_some (directive (emit t s)).tokens) h.in_c
-      ∙ no_more s.contents.parts.current t (none_open s h) plain.hash;
-}
+stays_plain s t h plain = grind (arith, no_more, none_open)
 
 stage_outside : (g : Stage) → is_outside g ≡ true → g ≡ Outside
 stage_outside Outside h = refl
 stage_outside _ h = cc
 
 step_plain : (d : Directive) (t : Token) → is_outside d.stage ≡ true → IsPlainToken t → after_token d t ≡ new_directive
-step_plain d t h plain =
-    (λ i. record {
-      stage = if h i then (if is_punct (codes "#") (Some t) && is_after_line_end d.last then Bare else Outside)
-          else (if is_after_line_end (last_kind t) && not
-          (continues_line d.last t) then Outside else next_open_stage d.stage t);
-      last = plain.last i;
-    }) ∙ ap (λ v. record {
-      stage = if v && is_after_line_end d.last then Bare else Outside;
-      last =
-          new_directive.last;
-    }) plain.hash
+step_plain d t h plain = grind arith
 
 -- The directive's state after a plain token.
 pub tied_plain : (d l : Directive) (c : Context) (o : Option Part) (t : Token) → IsTied d l c o → is_c c ≡ true
@@ -72,12 +48,7 @@ tied_plain d l c o t tied in_c part none plain =
 -- The directive's state after a newline outside directives.
 step_newline : (d : Directive) → is_outside d.stage ≡ true
     → after_token d Newline ≡ record { stage = d.stage; last = last.LineEnd }
-step_newline d h = λ i. record { stage = (stays h ∙ sym (stage_outside d.stage h)) i; last = last.LineEnd }
-  where
-    stays : is_outside d.stage ≡ true → next_stage d Newline ≡ Outside
-    stays h =
-        ap (λ v. if v then Outside else
-        (if not (continues_line d.last Newline) then Outside else next_open_stage d.stage Newline)) h
+step_newline d h = grind (arith, stage_outside)
 
 pub tied_newline : (d l : Directive) (c : Context) (o : Option Part) → IsTied d l c o → is_c c ≡ true
     → in_open_part c ≡ true → is_some (directive_of (tokens_of o)).tokens ≡ false
@@ -104,11 +75,7 @@ turn n u s new r line some c_text is closed yields =
 
 pub blanks_turn : (n : ℕ) (u : List ℕ) (s : ScanState) → IsLine u → 1 ≤ length u → IsPlainC s
     → rule.Blanks ≡ rule_at s u → n ≡ prefix_len is_blank u → TakesPlain n u s s
-blanks_turn n u s line some h is size = turn n u s s rule.Blanks line some h.in_c is refl
-    (record {
-      size = size;
-      state = sym (ap (λ v. if v && not (spec.is_last_blank (directive s).last) then emit Blank s else s) h.outside);
-    })
+blanks_turn n u s line some h is size = grind (arith, turn)
 
 pub word_turn : (n : ℕ) (u : List ℕ) (s new : ScanState) → IsLine u → 1 ≤ length u → s.context ≡ CText → rule.Identifier
     ≡ rule_at s u → n ≡ prefix_len is_word_byte u → new ≡ emit (Word (take n u)) s → TakesPlain n u s new
@@ -117,9 +84,4 @@ word_turn n u s new line some c_text is size made = turn n u s new rule.Identifi
 
 pub sign_turn : (u : List ℕ) (s new : ScanState) → IsLine u → 1 ≤ length u → IsPlainC s → rule.Punctuator ≡ rule_at s u
     → IsSign u → new ≡ record (emit (Punct (take 1 u)) s) { folded = false } → TakesPlain 1 u s new
-sign_turn u s new line some h is sign made = turn 1 u s new rule.Punctuator line some h.in_c is refl
-    (record {
-      size = sym sign.size;
-      state = made ∙ ap (λ v. record (emit (Punct (take 1 u)) s) { folded = v && s.folded }) (sym h.outside)
-          ∙ ap (λ k. punctuator (take k u) s) (sym sign.size);
-    })
+sign_turn u s new line some h is sign made = grind (arith, turn)

@@ -1,38 +1,19 @@
 -- Literals, raw or not, and included names, as one slice of the source.
-use Rattle.cweb_scan.proofs.Common.{ℕ, ◌≡◌, ◌≤◌, ◌+◌, true, false, ◌==◌, List, [], ◌∷◌, ◌++◌, length, take, drop, refl, ap, sym, ◌∙◌, subst, arith, codes, flat_map, fold, bytes_eq, append_assoc, append-nil, length-append, take-append-drop, flat_map-append, fold-append, Place, Look, Goes, Ends, at_line_ends, Reach, reach, body, reach_size, unescaped, unit_bytes, Cut, Open, Reached, reached, Reading, literal_unit, emit_literal, on, ScanState, AppliesOver, ended_as, PassesUnits, quoted_as, ends-append, and_parts, if◌then◌else◌, eqb-true, length-take-le, DoubleAtInString, report, each_line_end, move_to, passed}
+use Rattle.cweb_scan.proofs.Common.{ℕ, ◌≡◌, ◌≤◌, ◌+◌, true, false, ◌==◌, List, [], ◌∷◌, ◌++◌, length, take, drop, refl, ap, sym, ◌∙◌, subst, arith, codes, flat_map, bytes_eq, append_assoc, append-nil, length-append, take-append-drop, flat_map-append, fold-append, Place, Look, Goes, at_line_ends, Reach, reach, body, unescaped, unit_bytes, Cut, Open, Reached, reached, emit_literal, on, ScanState, AppliesOver, ended_as, PassesUnits, quoted_as, ends-append, and_parts, if◌then◌else◌, eqb-true, length-take-le, DoubleAtInString, report, each_line_end, move_to, passed}
 use Rattle.cweb_rules.specs.declared.items.Item.{Item}
 use Rattle.cweb_rules.specs.inner.LineItems.{look_of}
 use Rattle.cweb_rules.proofs.UnitNewlines.{quoted-bytes}
-use Rattle.cweb_scan.proofs.Ends.{item-some, reach-at_end, size-at_end, how-at_end, at_end, at_start}
+use Rattle.cweb_scan.proofs.Ends.{item-some, reach-at_end, size-at_end, how-at_end, at_start}
 use Rattle.cweb_scan.proofs.PendingItems.{each-passed}
 use Rattle.cweb_scan.proofs.TakenItems.{reading}
 
 -- Units one after another.
 pub passes_both : (us vs : List (List ℕ)) (a b c : List Place) (s t v : ScanState) → PassesUnits us a b s t
     → PassesUnits vs b c t v → PassesUnits (us ++ vs) a c s v
-passes_both us vs a b c s t v x y = record {
-  state = λ later. fold-append literal_unit (reading s (a ++ later)) us vs
-      ∙ ap (λ (r : Reading). fold literal_unit r vs) (x.state later) ∙ y.state later;
-  lines = omega (
-    arith,
-    x.lines,
-    y.lines,
-    ap (at_line_ends 1) (flat_map-append (λ u. u) us vs),
-    ends-append (flat_map (λ u. u) us) (flat_map (λ u. u) vs),
-  );
-  context = y.context ∙ x.context;
-  contents = y.contents ∙ x.contents;
-  sections = y.sections ∙ x.sections;
-}
+passes_both us vs a b c s t v x y = grind (arith, fold-append, reading, flat_map-append, ends-append)
 
 pub passes_none : (a : List Place) (s : ScanState) → PassesUnits [] a a s s
-passes_none a s = record {
-  state = λ later. refl;
-  lines = omega arith;
-  context = refl;
-  contents = refl;
-  sections = refl;
-}
+passes_none a s = grind arith
 
 -- Some units were passed, and the rest are to come.
 pub record PassesRest (us rest : List (List ℕ)) (places left : List Place) (old mid : ScanState) : Type 0 where
@@ -69,11 +50,7 @@ no_units look (b ∷ t) h = absurd (omega (arith, h))
 pub ended_units : (look : List ℕ → Look) (t : List ℕ) (v : Look) → v ≡ look t → ((n : ℕ) → v ≡ Goes n → ⊥)
     → (reach look Open t).units ≡ []
 ended_units look [] v is none = refl
-ended_units look (b ∷ t) v is none = ap (λ w. (at_start look w (b ∷ t) Open t).units) (sym is) ∙ by v none
-  where
-    by : (v : Look) → ((n : ℕ) → v ≡ Goes n → ⊥) → (at_start look v (b ∷ t) Open t).units ≡ []
-    by (Goes n) none = absurd (none n refl)
-    by (Ends n how) none = refl
+ended_units look (b ∷ t) v is none = grind (arith, at_start)
 
 pub quoted_passes : (first close : List ℕ) (us : List (List ℕ)) (a b c d : List Place) (s t v w : ScanState)
     → PassesUnits (first ∷ []) a b s t → PassesUnits us b c t v → PassesUnits (close ∷ []) c d v w
@@ -103,15 +80,7 @@ no_line_end (b ∷ c ∷ t) h = let wrong = (and_parts (b == 64) false h).1 in c
 -- An `@` that isn't doubled.
 pub lone_at : (u : List ℕ) (ps : List Place) (s new : ScanState) → bytes_eq u (codes "@") ≡ true
     → new ≡ report DoubleAtInString s → PassesUnits (u ∷ []) ps ps s new
-lone_at u ps s new h made = record {
-  state = λ later. ap (λ v. if v then on (report DoubleAtInString) (reading s (ps ++ later))
-      else each_line_end move_to u (reading s (ps ++ later))) h
-      ∙ ap (λ (v : ScanState). reading v (ps ++ later)) (sym made);
-  lines = omega (arith, ap (at_line_ends 1) (append-nil u), no_line_end u h);
-  context = ap (λ (v : ScanState). v.context) made;
-  contents = ap (λ (v : ScanState). v.contents) made;
-  sections = ap (λ (v : ScanState). v.sections) made;
-}
+lone_at u ps s new h made = grind (arith, reading, append-nil, no_line_end)
 
 -- Any other unit.
 pub lines_passed : (u : List ℕ) (n : ℕ) (ps first left : List Place) (s new : ScanState)
@@ -169,9 +138,7 @@ quoted_lines k item t r n is lines =
 
 pub quoted_text : (first close : List ℕ) (us : List (List ℕ))
     → (unit_bytes first ++ unescaped us) ++ unit_bytes close ≡ unescaped (first ∷ us ++ close ∷ [])
-quoted_text first close us = append_assoc (unit_bytes first) (unescaped us) (unit_bytes close)
-    ∙ ap (λ (v : List ℕ). unit_bytes first ++ v) (sym (flat_map-append unit_bytes us (close ∷ [])
-    ∙ ap (λ (v : List ℕ). unescaped us ++ v) (append-nil (unit_bytes close))))
+quoted_text first close us = grind (arith, append_assoc, flat_map-append, append-nil)
 
 -- A literal as the code takes it.
 quoted_applies : (k : ℕ) (item : Item) (t : List ℕ) (ps left : List Place) (r : Reached) (x : List ℕ)
@@ -183,32 +150,7 @@ quoted_applies : (k : ℕ) (item : Item) (t : List ℕ) (ps left : List Place) (
     → new ≡ emit_literal x (ended_as Cut r.how) s.here mid
     → AppliesOver (quoted_as k item t) t ps (k + (r.size + r.close)) s new
 quoted_applies k item t ps left r x s mid new is lines passes text made =
-    let look = look_of item in
-    let o = reach look Open (drop k t) in
-    let units = take k t ∷ o.units ++ take r.close (drop (k + r.size) t) ∷ [] in
-    let m = reach look Cut (drop k t) in
-    let end : m ≡ at_end Cut o = reach-at_end item Cut (drop k t) in
-    let us : take k t ∷ o.units ++ take r.close (drop (k + r.size) t) ∷ [] ≡ all_units k m t =
-    ap (λ (v : Reached). take k t ∷ o.units ++ take v.close (drop (k + v.size) t) ∷ []) is
-    ∙ ap (λ (v : Reach). all_units k v t) (sym end) in
-    let bytes : flat_map (λ u. u) (all_units k m t) ≡ take (k + reach_size m) t =
-    quoted-bytes look (item-some item) k t in
-    let none : left ≡ [] = no_place_left left (omega (
-      arith,
-      passes.lines,
-      ap (λ (v : List (List ℕ)). at_line_ends 1 (flat_map (λ u. u) v)) us,
-      ap (at_line_ends 1) bytes,
-      lines,
-    )) in
-    record {
-      size = ap (λ n. k + n) (size-at_end item Cut (drop k t) r is);
-      state = λ later. ap (λ (v : List (List ℕ)). on (emit_literal (unescaped v) m.how s.here)
-          (fold literal_unit (reading s (ps ++ later)) v)) (sym us)
-          ∙ ap (on (emit_literal (unescaped units) m.how s.here)) (passes.state later)
-          ∙ (λ i. reading (emit_literal (sym text i) (sym (how-at_end item Cut (drop k t) r is) i) s.here mid)
-          (none i ++ later))
-          ∙ ap (λ (v : ScanState). reading v later) (sym made);
-    }
+    grind (arith, reach-at_end, quoted-bytes, item-some, no_place_left, size-at_end, reading, how-at_end)
 
 pub quoted_taken : (k : ℕ) (item : Item) (t : List ℕ) (ps left : List Place) (r : Reached) (x : List ℕ)
     (s mid new : ScanState) (first inner close : List ℕ) → first ≡ take k t → inner ≡ drop k t

@@ -1,5 +1,5 @@
 -- The rest of a line is taken lexeme by lexeme.
-use Rattle.cweb_scan.proofs.Common.{◌≡◌, ℕ, ◌+◌, Bool, true, false, ◌&&◌, List, ◌++◌, drop, refl, ap, ◌∙◌, arith, if◌then◌else◌, codes, length-drop, begins, at_line_end, in_macro, in_c, match_in, c_match, Skipped, rule_match, opens_in, c_rule, c_match_by, Macro, CText, ReaderModel, read_on, TakesPrefix, drop-sum}
+use Rattle.cweb_scan.proofs.Common.{◌≡◌, ℕ, ◌+◌, Bool, true, false, ◌&&◌, List, drop, refl, ap, ◌∙◌, arith, if◌then◌else◌, codes, length-drop, begins, at_line_end, in_macro, in_c, match_in, c_match, Skipped, rule_match, opens_in, c_rule, c_match_by, Macro, CText, ReaderModel, TakesPrefix, drop-sum}
 use Rattle.cweb_rules.proofs.ByRules.{c_prefix-by}
 use Rattle.cweb_scan.proofs.FirstMatchTaken.{opens_by, c_opens-by}
 
@@ -8,13 +8,7 @@ takes_none u h = record { begun = refl; within = omega arith; adds = omega arith
 
 pub takes_both : (n m : ℕ) (u : List ℕ) (a b c : ReaderModel) → TakesPrefix n u a b → TakesPrefix m (drop n u) b c
     → TakesPrefix (n + m) u a c
-takes_both n m u a b c x y = record {
-  begun = y.begun ∙ x.begun;
-  within = omega (arith, x.within, y.within, length-drop n u);
-  adds = omega (arith, x.adds, y.adds);
-  same = λ later more e.
-      ap (λ (t : List ℕ). read_on c later (t ++ more)) (drop-sum n m u) ∙ y.same later more e ∙ x.same later more e;
-}
+takes_both n m u a b c x y = grind (arith, length-drop, drop-sum)
 
 pub c_is : (includes : Bool) (u : List ℕ) → match_in CText includes u ≡ c_match_by in_c false u (c_rule includes u)
 c_is includes u = c_prefix-by in_c false includes u

@@ -3,10 +3,7 @@ use Rattle.cweb_scan.proofs.Common.{arith, Context, Macro, End, Closed, Place, O
 use Rattle.cweb_store.proofs.CallerLemmas.{token_count_closed, part_count_closed}
 
 macro_room : (c : Context) (s : ScanState) → HasPartRoom s → HasPartRoom (end_macro_in c s)
-macro_room Macro s h = record {
-  for_tokens = omega (arith, h.for_tokens, token_count_closed s.contents.parts);
-  for_a_part = omega (arith, h.for_a_part, part_count_closed s.contents.parts);
-}
+macro_room Macro s h = grind (arith, token_count_closed, part_count_closed)
 macro_room _ s h = h
 
 pub end_macro_room : (s : ScanState) → HasPartRoom s → HasPartRoom (end_macro s)

@@ -1,5 +1,5 @@
 -- Scanning the lines of a merger.
-use Rattle.cweb_scan.proofs.Common.{◌≡◌, ◌≤◌, ◌<◌, ℕ, ◌+◌, Bool, true, List, [], ◌∷◌, ◌++◌, length, refl, ap, sym, ◌∙◌, subst, arith, nat_lt, ltb-true, lt-ltb, append-nil, append_assoc, All-nil, All-push, All-weaker, Place, Line, HasNoNewline, Event, KeepsReported, SoFar, Stopped, StopsFor, emitted_lines, EmitsLine, Grows, StopsThere, LINES, BYTES, Stop, ReadFault, LineTooLong, TooMuchText, Memory, Token, Mark, all_tokens, IsLine, ScanFault, Reading, ReaderModel, read_after, new_reader, IsBounded, MarkPasses, web_size, Scanned, read_lines, scanned, scanned_of, AreLinesBelow, IsScanBelow, IsMarkBelow, HasTaken, ScansWithinLimits, Scans, StopsAfter, ScanEndsEarly}
+use Rattle.cweb_scan.proofs.Common.{◌≡◌, ◌≤◌, ◌<◌, ℕ, ◌+◌, Bool, true, List, [], ◌∷◌, ◌++◌, length, ap, sym, ◌∙◌, subst, arith, nat_lt, ltb-true, lt-ltb, append-nil, append_assoc, All-push, All-weaker, Place, Line, HasNoNewline, Event, KeepsReported, SoFar, Stopped, StopsFor, emitted_lines, EmitsLine, Grows, StopsThere, LINES, BYTES, Stop, ReadFault, LineTooLong, TooMuchText, Memory, Token, Mark, all_tokens, IsLine, ScanFault, Reading, ReaderModel, read_after, new_reader, IsBounded, MarkPasses, web_size, Scanned, read_lines, scanned, scanned_of, AreLinesBelow, IsScanBelow, IsMarkBelow, HasTaken, ScansWithinLimits, Scans, StopsAfter, ScanEndsEarly}
 use Rattle.cweb_files.specs.Shelves.{Observed, ShelfContents, ShelfModel}
 use Rattle.cweb_lines.specs.surface.MergeProgress.{EmitsLines}
 use Rattle.cweb_lines.proofs.ReportsOnlyGrow.{reported_then}
@@ -15,13 +15,7 @@ is_line (b ∷ t) h = (h.0, is_line t h.1)
 
 pub nothing_taken : {R : Type 0} (shelf : ShelfModel R) (so : SoFar) (all : ShelfContents R → List Event)
     → HasTaken shelf so so all all new_reader
-nothing_taken shelf so all = record {
-  lines = [];
-  read_is = λ more. refl;
-  below = All-nil (λ (line : Line). line.place.file.0 < length so.names);
-  few = omega arith;
-  yields = λ seen it. yields_nothing so so (all seen) (all seen) refl refl refl refl;
-}
+nothing_taken shelf so all = grind (arith, yields_nothing)
 
 pub web_size-append : (a b : List Line) → web_size (a ++ b) ≡ web_size a + web_size b
 web_size-append [] b = omega arith
@@ -81,16 +75,7 @@ pub all_within : {R : Type 0} (shelf : ShelfModel R) (old so new : SoFar) (all n
     → s ≡ scanned_of (read_after pending []).state
     → length so.names ≤ length new.names → so.count.bytes ≤ BYTES → so.count.lines ≤ LINES → ScansWithinLimits new s
 all_within shelf old so new all now pending s taken is names few_bytes few_lines =
-    let same : s ≡ scanned taken.lines = is ∙ of_taken pending taken.lines taken.read_is in
-    let opened = wider (length so.names) (length new.names) taken.lines names taken.below in
-    record {
-      lines = taken.lines;
-      made = same;
-      opened = opened;
-      few = omega (arith, taken.few, few_bytes, few_lines);
-      below = subst (IsScanBelow (length new.names)) (sym same) (scanned-below (length new.names) taken.lines opened);
-      bounded = subst (λ (s : Scanned). IsBounded s.store (web_size taken.lines)) (sym same) (bounded taken.lines);
-    }
+    grind (arith, of_taken, wider, scanned-below, bounded)
 
 -- No line is left.
 pub all_scanned : (old so new : SoFar) (all now later : List Event) (lines : List Line) (pending : ReaderModel)

@@ -1,5 +1,5 @@
 -- The rest of a line: all of it, and the bytes before the next `@`.
-use Rattle.cweb_scan.proofs.Common.{arith, ◌≡◌, ℕ, ◌+◌, Bool, true, false, ◌==◌, not, List, [], ◌∷◌, refl, ap, sym, if◌then◌else◌, prefix_len, starts_section, match_in, Skipped, rule_match, IsLine, opens_in, Context, Limbo, TeX, Definition, Macro, CText, Reading, names_include, is_head, is_skipped, TakesPrefix, ScanState, move_to}
+use Rattle.cweb_scan.proofs.Common.{arith, ◌≡◌, ℕ, ◌+◌, Bool, true, false, ◌==◌, not, List, [], ◌∷◌, refl, if◌then◌else◌, prefix_len, starts_section, match_in, Skipped, rule_match, IsLine, opens_in, Context, Limbo, TeX, Definition, Macro, CText, is_head, is_skipped, TakesPrefix, ScanState}
 use Rattle.cweb_scan.proofs.Ends.{none_to_come}
 use Rattle.cweb_scan.proofs.FirstMatchTaken.{between}
 use Rattle.cweb_scan.proofs.InLineItemSteps.{closed_at}
@@ -29,13 +29,7 @@ no_head _ h = refl
 one_skipped : (s : ScanState) (g : Bool) (b : ℕ) (t : List ℕ) → is_text s.context ≡ true → IsLine (b ∷ t)
     → (b == 64) ≡ false → (64 == b) ≡ false → TakesPrefix 1 (b ∷ t) (between s g) (between s g)
 one_skipped s g b t c line h k =
-    let section = no_section b t h in
-    (closed_at 1 (b ∷ t) (between s g) (between s g) s (rule_match Skipped 1) refl refl (no_head s.context c) line
-    (omega arith) (skipped_prefix s.context (names_include s) b t c section k)
-    (skipped_opens s.context b t c section k) (record {
-      size = refl;
-      state = sym (ap (λ (r : Reading). r.state) (none_to_come move_to (b ∷ []) s));
-    })).taken
+    grind (arith, no_section, closed_at, no_head, skipped_prefix, skipped_opens, none_to_come)
 
 -- The bytes before the first `@` are skipped.
 pub skipped_takes : (s : ScanState) (g : Bool) (u : List ℕ) → is_text s.context ≡ true

@@ -1,6 +1,6 @@
 -- The small steps of a scan begin and end no part, section, name or macro. What they preserve holds after each lexeme
 -- that takes only such steps.
-use Rattle.cweb_scan.proofs.Common.{◌≡◌, ℕ, Bool, true, false, ◌||◌, ◌&&◌, not, List, [], ◌∷◌, Some, None, refl, if◌then◌else◌, codes, bytes_eq, fold, decimal, Place, Token, Word, Number, Literal, Verbatim, Punct, Blank, Newline, Mark, Join, Defs, Name, Head, Tail, Replacement, Context, Definition, Macro, CText, End, Closed, Cut, ScanKind, CommentDidNotEnd, StringDidNotEnd, ControlTextDidNotEnd, DoubleAtInString, ReplacementTooLong, FaultyConstant, unescaped, is_line_end, is_punct, is_last_blank, is_next_line, Kind, Skipped, Section, Code, Letter, ControlText, Constant, Blanks, LineEnd, Comment, Quoted, Defined, Identifier, Numeral, Punctuator, ScanState, emit, report_at, move_to, drop_definition, in_directive, directive, Reading, on, next_line, each_line_end, literal_unit, line_end_in, line_end, comment_line_end, blank, pass_control_text, emit_verbatim, pass_comment, emit_literal, stays_in_head, enter_in, enter, item}
+use Rattle.cweb_scan.proofs.Common.{◌≡◌, ℕ, Bool, true, false, ◌||◌, ◌&&◌, not, List, [], ◌∷◌, Some, None, refl, if◌then◌else◌, codes, fold, decimal, Place, Token, Word, Number, Literal, Verbatim, Punct, Blank, Newline, Mark, Join, Defs, Name, Head, Tail, Replacement, Context, Definition, Macro, CText, End, Closed, Cut, ScanKind, CommentDidNotEnd, StringDidNotEnd, ControlTextDidNotEnd, ReplacementTooLong, FaultyConstant, unescaped, is_line_end, is_punct, is_last_blank, is_next_line, Kind, Skipped, Section, Code, Letter, ControlText, Constant, Blanks, LineEnd, Comment, Quoted, Defined, Identifier, Numeral, Punctuator, ScanState, emit, report_at, move_to, drop_definition, in_directive, directive, Reading, on, next_line, each_line_end, literal_unit, line_end_in, line_end, comment_line_end, blank, pass_control_text, emit_verbatim, pass_comment, emit_literal, stays_in_head, enter_in, enter, item, arith}
 use Rattle.cweb_rules.specs.Matches.{Occurrence, Verbatim as VerbatimText}
 use Rattle.cweb_store.specs.Calls.{with_replacement}
 use Rattle.cweb_scan.proofs.TakenItems.{reading}
@@ -77,9 +77,7 @@ module _ {I : ScanState → Type 0} (w : Preserves I) where
       either (in_directive s && not (is_last_blank (directive s).last)) (emit Blank s) s (w.emits Blank s tt h) h
 
   unit-holds : (r : Reading) (u : List ℕ) → I r.state → I (literal_unit r u).state
-  unit-holds r u h = elim (bytes_eq u (codes "@"))
-      as (λ v. I (if v then on (λ s. report_at DoubleAtInString s.here s) r else each_line_end move_to u r).state)
-      [ true ↦ w.reports DoubleAtInString r.state.here r.state h | false ↦ moved u r h ]
+  unit-holds r u h = grind (arith, moved)
 
   units-hold : (us : List (List ℕ)) (r : Reading) → I r.state → I (fold literal_unit r us).state
   units-hold [] r h = h

@@ -13,12 +13,7 @@ plain_taken n u h v new is none t =
 
 pub plain_all : (n : ℕ) (u : List ℕ) (h new : ReaderModel) → TakesPrefix n u h new → length (drop n u) ≡ 0
     → 1 ≤ length u → MakesProgress n u h new
-plain_all n u h new t none some =
-    record {
-      some = omega (arith, length-drop n u, none, some, t.within);
-      last = λ e. omega (arith, length-drop n u, none, t.within);
-      taken = t;
-    }
+plain_all n u h new t none some = grind (arith, length-drop)
 
 pub plain_then : (n m : ℕ) (u after : List ℕ) (h mid new : ReaderModel) → TakesPrefix n u h mid → after ≡ drop n u
     → MakesProgress m after mid new → MakesProgress (n + m) u h new
@@ -31,9 +26,4 @@ plain_then n m u after h mid new t is p = record {
 pub plain_room : (n : ℕ) (u : List ℕ) (h new : ReaderModel) → TakesPrefix n u h new
     → cost h + 3 * length u + 8 < too_many
     → HasItemRoom 2 new.state
-plain_room n u h new t room = record {
-  for_tokens = omega (arith, t.adds, t.within, room);
-  for_a_part = omega (arith, t.adds, t.within, room);
-  for_an_occurrence = omega (arith, t.adds, t.within, room);
-  for_a_section = omega (arith, t.adds, t.within, room);
-}
+plain_room n u h new t room = grind arith

@@ -1,5 +1,5 @@
 -- The code's directive state follows the directive of the tokens.
-use Rattle.cweb_scan.proofs.Common.{◌≡◌, Bool, true, false, ◌&&◌, not, List, [], ◌∷◌, ◌++◌, Option, Some, None, refl, ap, sym, ◌∙◌, codes, bytes_eq, if◌then◌else◌, Token, Word, Punct, Blank, Newline, Stage, is_some}
+use Rattle.cweb_scan.proofs.Common.{◌≡◌, Bool, true, false, ◌&&◌, not, List, [], ◌∷◌, ◌++◌, Option, Some, None, refl, ap, sym, ◌∙◌, codes, bytes_eq, if◌then◌else◌, Token, Word, Punct, Blank, Newline, Stage, is_some, arith}
 use Rattle.std.proofs.lemmas.List.Sums.{fold-append}
 use Rattle.cweb_scan.specs.declared.directive.Stage.TheVariants.{Outside, Bare, Include, Further}
 use Rattle.cweb_scan.specs.DirectiveTokens.{is_bare_include, is_punct, ends_line, directive_tokens, directive_after, directive_of, some_include, is_line_continued}
@@ -47,9 +47,7 @@ bare_is false true = refl
 bare_is _ _ = refl
 
 stage_of_some : (ts : List Token) (t : Token) → stage_of (Some (t ∷ ts)) ≡ next_open_stage (stage_of (Some ts)) t
-stage_of_some ts (Word b) = ap
-    (λ v. if bytes_eq b (codes "include") && v then Include else Further)
-    (sym (bare_is (is_bare ts) (is_bare_include ts)))
+stage_of_some ts (Word b) = grind (arith, bare_is)
 stage_of_some ts _ = refl
 
 choice : (v : Bool) (ts : List Token) (t : Token)
@@ -61,15 +59,7 @@ stage-seen : (o : Option (List Token)) (l : Option Token) (t : Token)
     → stage_of (directive_tokens o l t) ≡ next_stage (record { stage = stage_of o; last = maybe_last_kind l }) t
 stage-seen None l t = stage_when (is_punct (codes "#") (Some t) && ends_line l)
     ∙ ap (λ v. if is_punct (codes "#") (Some t) && v then Bare else Outside) (sym (ends-seen l))
-stage-seen (Some ts) l t = choice (ends_line (Some t) && not (is_line_continued l t)) ts t
-    ∙ (λ i.
-    if sym (ends-seen (Some t)) i && not (sym (over-seen l t) i) then Outside else next_open_stage
-    (stage_of (Some ts)) t)
-    ∙ ap (λ v. if v then
-    (if is_punct (codes "#") (Some t) && is_after_line_end (maybe_last_kind l) then Bare else Outside) else
-    (if is_after_line_end (last_kind t) && not
-    (kept.continues_line (maybe_last_kind l) t) then Outside else next_open_stage
-    (stage_of (Some ts)) t)) (sym (not_outside (is_bare ts) (is_bare_include ts)))
+stage-seen (Some ts) l t = grind (arith, choice, ends-seen, over-seen, not_outside)
 
 step-seen : (d : spec.Directive) (t : Token) → directive_model (directive_after d t) ≡ after_token (directive_model d) t
 step-seen d t = ap (λ (g : Stage). record { stage = g; last = last_kind t }) (stage-seen d.tokens d.last t)

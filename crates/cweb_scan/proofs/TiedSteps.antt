@@ -1,5 +1,5 @@
 -- The invariant of the directive's state, and trailing layout.
-use Rattle.cweb_scan.proofs.Common.{◌≡◌, true, false, List, [], ◌∷◌, ◌++◌, Option, Some, None, refl, ap, sym, ◌∙◌, take, drop, option_map, if◌then◌else◌, Token, Part, part_with_token, Context, in_open_part, is_macro, is_layout, before_last, without_last, without_layout, Directive, IsTied}
+use Rattle.cweb_scan.proofs.Common.{◌≡◌, true, false, List, [], ◌∷◌, ◌++◌, Option, Some, None, refl, ap, ◌∙◌, take, drop, option_map, if◌then◌else◌, Token, Part, part_with_token, Context, in_open_part, is_macro, is_layout, before_last, without_last, without_layout, Directive, IsTied, arith}
 use Rattle.cweb_scan.specs.inner.ScanParts.{after_token, after_tokens}
 use Rattle.cweb_scan.proofs.Steps.{directive-pushed}
 
@@ -20,11 +20,7 @@ last_solid (x ∷ ts) t h = ap (before_last is_layout x) (last_solid ts t h) ∙
 
 before_twice : (x : Token) (ts : List Token) → without_last is_layout ts ≡ ts
     → without_last is_layout (before_last is_layout x ts) ≡ before_last is_layout x ts
-before_twice x [] h = elim (is_layout x)
-    as (λ v. is_layout x ≡ v → without_last is_layout (if v then [] else x ∷ []) ≡ (if v then [] else x ∷ [])) [
-      | true ↦ λ e. refl
-      | false ↦ λ e. ap (λ v. if v then [] else x ∷ []) e
-    ] refl
+before_twice x [] h = grind arith
 before_twice x (u ∷ us) h = ap (before_last is_layout x) h
 
 last_twice : (ts : List Token) → without_last is_layout (without_last is_layout ts) ≡ without_last is_layout ts
@@ -34,24 +30,13 @@ last_twice (x ∷ ts) = before_twice x (without_last is_layout ts) (last_twice t
 solid_emitted : (d l : Directive) (ts : List Token) (t : Token)
     → d ≡ after_tokens ts → l ≡ after_tokens (without_last is_layout ts)
     → (if is_layout t then l else after_token d t) ≡ after_tokens (without_last is_layout (ts ++ t ∷ []))
-solid_emitted d l ts t h k = (elim (is_layout t)
-    as (λ v. is_layout t ≡ v
-    → (if v then l else after_token d t) ≡ after_tokens (without_last is_layout (ts ++ t ∷ []))) [
-      | true ↦ λ e. k ∙ ap after_tokens (sym (last_layout ts t e))
-      | false ↦ λ e. ap (λ d. after_token d t) h ∙ sym (directive-pushed ts t)
-          ∙ ap after_tokens (sym (last_solid ts t e))
-    ]) refl
+solid_emitted d l ts t h k = grind (arith, last_layout, directive-pushed, last_solid)
 
 pub tied_emitted : (d l : Directive) (c : Context) (o : Option Part) (t : Token) → IsTied d l c o
     → in_open_part c ≡ true
     → IsTied (after_token d t) (if is_layout t then l else after_token d t) c (option_map (part_with_token t) o)
 tied_emitted d l c None t tied h = let wrong : false ≡ true = tied.part_is_open ∙ h in cc
-tied_emitted d l c (Some p) t tied h = record {
-  part_is_open = tied.part_is_open;
-  is_no_macro = tied.is_no_macro;
-  directive_is = λ e. ap (λ d. after_token d t) (tied.directive_is e) ∙ sym (directive-pushed p.tokens t);
-  solid_is = λ e. solid_emitted d l p.tokens t (tied.directive_is e) (tied.solid_is e);
-}
+tied_emitted d l c (Some p) t tied h = grind (arith, directive-pushed, solid_emitted)
 
 dropped_tokens : (p : Part) → is_macro p.kind ≡ false → (without_layout p).tokens ≡ without_last is_layout p.tokens
 dropped_tokens p h =
@@ -59,16 +44,5 @@ dropped_tokens p h =
 
 pub tied_dropped : (d l : Directive) (c : Context) (o : Option Part)
     → IsTied d l c o → IsTied l l c (option_map without_layout o)
-tied_dropped d l c None tied = record {
-  part_is_open = tied.part_is_open;
-  is_no_macro = tied.is_no_macro;
-  directive_is = λ e. tied.solid_is e;
-  solid_is = λ e. tied.solid_is e;
-}
-tied_dropped d l c (Some p) tied = record {
-  part_is_open = tied.part_is_open;
-  is_no_macro = tied.is_no_macro;
-  directive_is = λ e. tied.solid_is e ∙ ap after_tokens (sym (dropped_tokens p (tied.is_no_macro e)));
-  solid_is = λ e. tied.solid_is e ∙ ap after_tokens
-      (sym (last_twice p.tokens) ∙ ap (without_last is_layout) (sym (dropped_tokens p (tied.is_no_macro e))));
-}
+tied_dropped d l c None tied = grind arith
+tied_dropped d l c (Some p) tied = grind (arith, dropped_tokens, last_twice)

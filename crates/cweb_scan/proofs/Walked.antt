@@ -1,5 +1,5 @@
 -- All lexemes of a source satisfy a relation that the moves satisfy.
-use Rattle.cweb_scan.proofs.Common.{◌≡◌, ◌<◌, ℕ, List, [], ◌∷◌, ◌++◌, length, take, ap, sym, ◌∙◌, subst, arith, length-append, append-nil, take-append_seam, flat_map, fold, Place, Kind, Lexeme, Pays, Reading, after_lexeme, AreLexemes, next_match, names_include, lexemes, lex, Tells, ends-append}
+use Rattle.cweb_scan.proofs.Common.{◌≡◌, ◌<◌, ℕ, List, [], ◌∷◌, ◌++◌, length, ap, sym, ◌∙◌, subst, arith, length-append, append-nil, take-append_seam, flat_map, fold, Place, Kind, Lexeme, Pays, Reading, after_lexeme, AreLexemes, next_match, lexemes, lex, Tells, ends-append}
 use Rattle.cweb_rules.proofs.Newlines.{is_known}
 use Rattle.cweb_scan.proofs.NextMatchPays.{fair}
 use Rattle.cweb_scan.proofs.Moves.{Moves}
@@ -14,13 +14,7 @@ pub fits : (r : Reading) (t bytes rest : List ℕ) (k : Kind) → t ≡ bytes ++
     → k ≡ (next_match r.state t).kind → length bytes ≡ (next_match r.state t).size
     → Pays r.state.context k bytes × Tells k bytes
 fits r [] bytes rest k e some same size = absurd (omega (arith, ap length e, length-append bytes rest, some))
-fits r (b ∷ t) bytes rest k e some same size =
-    let f = next_match r.state (b ∷ t) in
-    let is : bytes ≡ take f.size (b ∷ t) =
-    sym (take-append_seam bytes rest) ∙ ap (λ n. take n (bytes ++ rest)) size ∙ ap (take f.size) (sym e) in
-    subst (λ u. Pays r.state.context k u × Tells k u) (sym is) (subst (λ (j : Kind).
-    Pays r.state.context j (take f.size (b ∷ t)) × Tells j (take f.size (b ∷ t))) (sym same)
-    ((fair r.state b t).pays, is_known r.state.context (names_include r.state) b t))
+fits r (b ∷ t) bytes rest k e some same size = grind (arith, take-append_seam, fair, is_known)
 
 -- The lexemes concatenate to the source.
 pub joined : (r : Reading) (t : List ℕ) (ps : List Lexeme) → AreLexemes r t ps → bytes_in ps ≡ t

@@ -1,5 +1,5 @@
 -- How much each step adds to the weight: tokens, parts, occurrences and sections.
-use Rattle.cweb_scan.proofs.Common.{◌≤◌, ℕ, ◌+◌, ◌*◌, List, [], ◌∷◌, ◌++◌, Some, None, length, ap, arith, length-append, option_map, option_to_list, Place, PartKind, Token, Part, all_tokens, PartsSoFar, with_opened_part, with_pushed_token, part_with_token, Lexeme, Pays, Reading, next_line, ScanState, move_to, line_end, comment_line_end, after_lexeme, weight, append-nil, Tells, Context, Macro, CText, Newline, line_end_in, line_end_token, in_directive, true, false, if◌then◌else◌}
+use Rattle.cweb_scan.proofs.Common.{◌≤◌, ℕ, ◌+◌, ◌*◌, List, [], ◌∷◌, length, arith, length-append, Place, PartKind, Token, PartsSoFar, with_opened_part, with_pushed_token, Lexeme, Pays, Reading, next_line, ScanState, move_to, line_end, comment_line_end, after_lexeme, weight, append-nil, Tells, Context, Macro, CText, Newline, line_end_in, line_end_token}
 use Rattle.cweb_store.specs.surface.Tokens.{token_count, part_count}
 use Rattle.cweb_store.proofs.CallerLemmas.{part_count_pushed, part_count_dropped, part_count_closed, token_count_closed, token_count_dropped, tokens-last}
 use Rattle.cweb_scan.proofs.Moves as step
@@ -8,41 +8,13 @@ use Rattle.cweb_scan.proofs.LexemeMoves.{after-walks}
 use Rattle.cweb_scan.proofs.TakenItems.{reading}
 
 token_pushed : (t : Token) (v : PartsSoFar) → token_count (with_pushed_token t v) ≤ token_count v + 1
-token_pushed t v = elim v.current as
-    (λ o. length (all_tokens (v.closed ++ option_to_list (option_map (part_with_token t) o)))
-    ≤ length (all_tokens (v.closed ++ option_to_list o)) + 1) [
-      | None ↦ omega arith
-      | Some p ↦
-          omega (
-            arith,
-            tokens-last v.closed (part_with_token t p),
-            tokens-last v.closed p,
-            length-append p.tokens
-                (t ∷ []),
-          )
-    ]
-
-abbrev empty_part : PartKind → Part
-empty_part kind = record { kind = kind; tokens = [] }
+token_pushed t v = grind (arith, tokens-last, length-append)
 
 token_opened : (kind : PartKind) (v : PartsSoFar) → token_count (with_opened_part kind v) ≤ token_count v
-token_opened kind v = elim v.current as (λ o. length (all_tokens (v.closed ++ (empty_part kind) ∷ []))
-    ≤ length (all_tokens (v.closed ++ option_to_list o))) [
-      | None ↦
-          omega (
-            arith,
-            tokens-last v.closed (empty_part kind),
-            ap (λ (ps : List Part). length (all_tokens ps)) (append-nil v.closed),
-          )
-      | Some p ↦ omega (arith, tokens-last v.closed (empty_part kind), tokens-last v.closed p)
-    ]
+token_opened kind v = grind (arith, tokens-last, append-nil)
 
 part_opened : (kind : PartKind) (v : PartsSoFar) → part_count (with_opened_part kind v) ≤ part_count v + 1
-part_opened kind v =
-    elim v.current as (λ o. length (v.closed ++ (empty_part kind) ∷ []) ≤ length (v.closed ++ option_to_list o) + 1) [
-      | None ↦ omega (arith, length-append v.closed ((empty_part kind) ∷ []), length-append v.closed [])
-      | Some p ↦ omega (arith, length-append v.closed ((empty_part kind) ∷ []), length-append v.closed (p ∷ []))
-    ]
+part_opened kind v = grind (arith, length-append)
 
 line_end_in-tokens : (c : Context) (p : Place) (s : ScanState)
     → token_count (line_end_in c p s).contents.parts ≤ token_count s.contents.parts + 1
@@ -52,9 +24,7 @@ line_end_in-tokens _ p s = omega arith
 
 pub comment_line_end-tokens : (p : Place) (s : ScanState)
     → token_count (comment_line_end p s).contents.parts ≤ token_count s.contents.parts + 1
-comment_line_end-tokens p s = elim (in_directive s)
-    as (λ v. token_count (if v then move_to p s else line_end p s).contents.parts ≤ token_count s.contents.parts + 1)
-    [ true ↦ omega arith | false ↦ line_end_in-tokens s.context p s ]
+comment_line_end-tokens p s = grind (arith, line_end_in-tokens)
 
 abbrev Weighs : ℕ → ℕ → ℕ → ℕ → Reading → Reading → Type 0
 Weighs n w t b r m = weight m.state ≤ weight r.state + w

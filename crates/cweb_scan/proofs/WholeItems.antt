@@ -1,6 +1,6 @@
 -- Lexemes over some lines are taken whole.
-use Rattle.cweb_scan.proofs.Common.{◌≡◌, ◌≤◌, ℕ, ◌+◌, ◌*◌, false, List, [], ◌∷◌, ◌++◌, length, take, drop, ap, sym, ◌∙◌, arith, length-take-le, Place, RuleMatch, AtLineEnd, IsLine, opens_in, Reading, enter_in, item, after_lexeme, lex, names_include, next_match, ScanState, weight, Applies, AppliesOver, subst}
-use Rattle.cweb_rules.proofs.InLines.{InLine, valid}
+use Rattle.cweb_scan.proofs.Common.{◌≡◌, ◌≤◌, ℕ, ◌+◌, ◌*◌, false, List, [], ◌∷◌, ◌++◌, length, take, drop, ap, sym, ◌∙◌, arith, length-take-le, Place, RuleMatch, AtLineEnd, IsLine, opens_in, Reading, enter_in, item, after_lexeme, lex, names_include, next_match, ScanState, weight, Applies, AppliesOver}
+use Rattle.cweb_rules.proofs.InLines.{valid}
 use Rattle.cweb_rules.proofs.Newlines.{is_known}
 use Rattle.cweb_scan.proofs.FirstLexeme.{first}
 use Rattle.cweb_scan.proofs.NextMatchPays.{fair}
@@ -50,11 +50,4 @@ takes_whole s new (b ∷ t) ps n f some stays is ends applies = whole_of s new b
 pub in_its_line : (s new : ScanState) (u : List ℕ) (n : ℕ) (f : RuleMatch) (m : ScanState) → IsLine u → 1 ≤ length u
     → next_match s u ≡ f → Applies f u n m new → AppliesOver f u [] n m new
 in_its_line s new [] n f m line some is applies = absurd (omega (arith, some))
-in_its_line s new (b ∷ t) n f m line some is applies =
-    let u = b ∷ t in
-    let h = subst (λ (v : RuleMatch). InLine v.kind (take v.size u)) is (valid s.context (names_include s) b t line) in
-    record {
-      size = applies.size;
-      state = λ later. item_line f.kind (take f.size u) m later h
-          ∙ ap (λ (v : ScanState). reading v later) (sym applies.state);
-    }
+in_its_line s new (b ∷ t) n f m line some is applies = grind (arith, valid, item_line, reading)

@@ -27,7 +27,7 @@ pub fn lexemes_are_unique()
     ensures are { (r : Reading) (t : List ℕ) → AreLexemes r t (lexemes r t) }
 {}
 
-/// A store has at most as many tokens, and as many bytes, as the web has bytes plus lines.
+/// The tokens of a store, and the bytes of its strings with repetitions, are at most the bytes plus lines of the web.
 pub fn store_is_bounded()
     ensures { (lines : List Line) → IsBounded (scanned lines).store (web_size lines) }
 {}

@@ -111,7 +111,7 @@ fn take_lines<S: Shelf>(
 }
 
 /// Scans the remaining lines of a merger into a store, faults and sections. The source is these lines joined by
-/// newlines. If an allocation fails, the merger stops.
+/// newlines. If an allocation fails, the merger stops. A scan that isn't whole returns the merger's stop.
 pub fn scan<S: Shelf>(alloc: Global, merger: &mut Merger<S>, shelf: &mut S) -> Result<Scanned, Stop>
     requires { (S.model shelf.old).failed + 1 < 2 ^ 64 }
     ensures grows { Grows (so_far merger.old) (so_far merger.new) }

@@ -85,7 +85,7 @@ impl Builder {
         self.parts.is_open()
     }
 
-    /// Begins a part.
+    /// Begins a part, which is open until it is closed. A refused call changes nothing.
     pub fn open_part(&mut self, kind: PartKind) -> Result<(), AllocError>
         requires closed { IsNone self.old.parts.current }
         requires few { part_count self.old.parts + 1 < too_many }
@@ -96,7 +96,7 @@ impl Builder {
         Ok(())
     }
 
-    /// Appends a token to the open part.
+    /// Appends a token to the open part. A refused call changes nothing.
     #[inline(always)]
     pub fn push(&mut self, token: Token<'_>) -> Result<(), AllocError>
         requires open { IsSome self.old.parts.current }

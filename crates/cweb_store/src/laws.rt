@@ -38,8 +38,8 @@ pub fn store_holds_calls_answered_ok<'a>(
     Ok((answers, store))
 }
 
-/// Names are distinct, and a full one resolves to itself. An abbreviation resolves to a name that begins with its prefix:
-/// the only one among earlier names, whatever comes later. Names that don't begin with the prefix change nothing.
+/// Names are distinct. A full one resolves to itself, an abbreviation to a name that it begins: the only earlier one,
+/// whatever comes later. Other names change nothing. Without a name there is one fault.
 pub fn names()
     ensures names_are_distinct { NamesAreDistinct }
     ensures full_names_resolve_to_themselves { FullNamesResolveToThemselves }

@@ -94,7 +94,7 @@ impl Store {
         self.parts.tokens().next_use(part)
     }
 
-    /// The name that an occurrence resolves to, if any.
+    /// The name that an occurrence resolves to: itself, or the only one with its prefix, earlier or else in the web.
     pub fn standing(&self, name: NameRef) -> Option<NameId>
         ensures name { result ≡ spec.resolved_at (spec.resolutions self.now.occurrences) name.0 }
         ensures within { IfSome result (λ id. id.0 < length (spec.names self.now.occurrences)) }
@@ -170,7 +170,7 @@ impl Store {
         self.answers.faults.as_slice()
     }
 
-    /// The number of bytes of all strings: of tokens, occurrences and replacements. Equal strings of Words and
+    /// The number of bytes of all strings: of tokens, occurrences and replacements. Equal Words, Numbers and
     /// punctuators are stored once.
     pub fn text_bytes(&self) -> u64
         ensures strings { AreInOneList result (stored_strings self.now) }

@@ -1,11 +1,12 @@
 // Tokens that borrow their bytes.
 
-pub mod closed;
 pub mod layout;
 pub mod list;
+pub mod queries;
 pub mod records;
 pub mod token_index;
 pub mod token_reader;
+pub mod unaligned;
 
 use cweb_files::Place;
 use cweb_names::NameRef;

@@ -1,9 +1,9 @@
 -- What calls for drafts leave.
-use Rattle.std.proofs.Common.{◌≡◌, ◌⊎◌, ◌∙◌, ⊎_elim, slice_index_or, ℕ, List, Bool, true, false, refl, sym, ap, subst, Option, Some, string_bytes}
+use Rattle.std.proofs.Common.{arith}
+use Rattle.std.proofs.Common.{◌≡◌, ◌⊎◌, ◌∙◌, ⊎_elim, slice_index_or, ℕ, List, refl, sym, ap, subst, Option, string_bytes}
 use Rattle.std.specs.Prelude.{All}
 use Rattle.cweb_system.specs.declared.drafts.path.Draft.{Draft}
 use Rattle.cweb_system.specs.declared.node.FileKey.{FileKey}
-use Rattle.cweb_system.specs.declared.node.Node.{Node}
 use Rattle.cweb_system.specs.declared.run_files.RunFiles.{RunFiles}
 use Rattle.cweb_system.specs.declared.written.WrittenFile.{WrittenFile}
 use Rattle.cweb_system.specs.FileSet.{keys_in}
@@ -11,17 +11,13 @@ use Rattle.cweb_system.specs.Steps.{Disk, OnDisk}
 use Rattle.cweb_system.specs.Tree.{Tree, IsFile, Removes, SetsMode, at}
 use Rattle.cweb_system.specs.inner.Drafts.{Clears, DraftIsThere, IsAlone, LeavesFiles}
 use Rattle.cweb_system.specs.inner.Written.{Leaves}
-use Rattle.cweb_system.specs.inner.Keys.{key_eq}
 use Rattle.cweb_system.proofs.Keys.{key_is, key_self}
 use Rattle.cweb_system.proofs.Steps.{keeps_then, same_at}
 use Rattle.cweb_system.proofs.Views.{leaves_then}
 
 pub leaves_files_then : {F : Type 0} {disk : Option (F → Disk)} {files : RunFiles} {a b c : F}
     → LeavesFiles disk files a b → LeavesFiles disk files b c → LeavesFiles disk files a c
-leaves_files_then {files = files} first then = record {
-  decent = keeps_then first.decent then.decent;
-  leaves = λ some. leaves_then files.written.items _ _ _ (first.leaves some) (then.leaves some);
-}
+leaves_files_then {files = files} first then = grind (arith, keeps_then, leaves_then)
 
 -- What is cleared is no committed file.
 cleared_leaves : (ws : List WrittenFile) (path : List ℕ) (old new : Tree) → new.place ≡ old.place
@@ -59,41 +55,11 @@ clearing files path old new clears other = record {
 -- A file keeps its key where permissions are set.
 pub set_back : (key : FileKey) (mode : ℕ) (old new : Tree) → SetsMode key mode old new → (k : FileKey) (p : List ℕ)
     → IsFile k (new.node p) → IsFile k (old.node p)
-set_back key mode old new sets k p is = by_node (old.node p) refl
-  where
-    same : (o : Option Node) → old.node p ≡ o → (IsFile key o → ⊥) → IsFile k o
-    same o e other = subst (IsFile k) (sets.others p (λ f. other (subst (IsFile key) e f)) ∙ e) is
-
-    by_key : (f : FileKey) (m : ℕ) → old.node p ≡ Some (Node.File f m) → (b : Bool) → key_eq f key ≡ b → f ≡ k
-    by_key f m e true test = key_is f key test
-        ∙ subst (IsFile k) (sets.set p (subst (IsFile key) (sym e) (key_is f key test))) is
-    by_key f m e false test = same (Some (Node.File f m)) e (λ itself. absurd (apart itself))
-      where
-        apart : f ≡ key → ⊥
-        apart itself =
-            let both : true ≡ false = sym (subst (λ (g : FileKey). key_eq f g ≡ true) itself (key_self f)) ∙ test in
-            cc
-
-    by_node : (o : Option Node) → old.node p ≡ o → IsFile k o
-    by_node (Some (Node.File f m)) e = by_key f m e (key_eq f key) refl
-    by_node o e = same o e (λ f. f)
+set_back key mode old new sets k p is = grind (arith, key_is, key_self)
 
 -- The draft is still there after its permissions were set.
 pub draft_set : {H : Type 0} (key : H → FileKey) (ws : List WrittenFile) (draft : Draft H) (mode : ℕ) (old new : Tree)
     → new.place ≡ old.place → SetsMode (key draft.file) mode old new
     → ((path : List ℕ) → IsAlone (key draft.file) path old → IsAlone (key draft.file) path new)
     → DraftIsThere key ws draft old → DraftIsThere key ws draft new
-draft_set key ws draft mode old new places sets alone there = record {
-  file = there.file;
-  opened = there.opened;
-  there = subst (λ (k : FileKey). IsFile k (at new (string_bytes draft.path))) there.opened
-      (subst (IsFile (key draft.file)) (sym (sets.set (new.place (string_bytes draft.path)) here)) refl);
-  new = there.new;
-  alone = subst (λ (k : FileKey). IsAlone k (string_bytes draft.path) new) there.opened
-      (alone (string_bytes draft.path)
-      (subst (λ (k : FileKey). IsAlone k (string_bytes draft.path) old) (sym there.opened) there.alone));
-}
-  where
-    here : IsFile (key draft.file) (old.node (new.place (string_bytes draft.path)))
-    here = subst (λ (p : List ℕ). IsFile (key draft.file) (old.node p)) (same_at (sym places) (string_bytes draft.path))
-        (subst (λ (k : FileKey). IsFile k (at old (string_bytes draft.path))) (sym there.opened) there.there)
+draft_set key ws draft mode old new places sets alone there = grind (arith, same_at)

@@ -1,5 +1,6 @@
 -- The model of bins after a call that changes what is seen of them.
-use Rattle.std.proofs.Common.{◌≡◌, ◌∙◌, ℕ, List, ap, refl, Option, Some, None}
+use Rattle.std.proofs.Common.{arith}
+use Rattle.std.proofs.Common.{◌≡◌, ℕ, List, refl, Option, Some}
 use Rattle.std.specs.Prelude.{option_map}
 use Rattle.cweb_files.specs.Bins.{refused}
 use Rattle.cweb_files.specs.Files.{File}
@@ -25,12 +26,7 @@ pub model_is : {F : Type 0} (disk : Option (F → Disk)) (old new : (F → Disk)
     (change : SinkContents → SinkContents) {failed count : ℕ} → failed ≡ count
     → OnDisk disk (λ see. new see ≡ change (old see))
     → as_model failed (option_map new disk) ≡ as_model count (option_map change (option_map old disk))
-model_is {F = F} disk old new change counts is = λ i. as_model (counts i) (by_view disk is i)
-  where
-    by_view : (disk : Option (F → Disk)) → OnDisk disk (λ see. new see ≡ change (old see))
-        → option_map new disk ≡ option_map change (option_map old disk)
-    by_view None is = refl
-    by_view (Some see) is = ap Some (is refl)
+model_is {F = F} disk old new change counts is = grind arith
 
 -- A draft was discarded first. The change doesn't depend on that.
 pub after_discard : {F : Type 0} (disk : Option (F → Disk)) (old mid new : (F → Disk) → SinkContents)
@@ -39,15 +35,7 @@ pub after_discard : {F : Type 0} (disk : Option (F → Disk)) (old mid new : (F 
     → as_model between (option_map mid disk) ≡ changed without_draft (as_model before (option_map old disk))
     → failed ≡ count → OnDisk disk (λ see. new see ≡ change (mid see))
     → as_model failed (option_map new disk) ≡ as_model count (option_map change (option_map old disk))
-after_discard disk old mid new change {count = count} same gone counts is =
-    model_is disk mid new change counts is
-    ∙ ap (λ (m : SinkModel). as_model count (option_map change m.contents)) gone
-    ∙ ap (as_model count) (again (option_map old disk))
-  where
-    again : (contents : Option SinkContents)
-        → option_map change (option_map without_draft contents) ≡ option_map change contents
-    again None = refl
-    again (Some now) = ap Some (same now)
+after_discard disk old mid new change {count = count} same gone counts is = grind (arith, model_is)
 
 -- A refused draft, by the fault.
 pub refused_device : (fault : BinFault) (bins : SinkModel) → fault ≡ Device

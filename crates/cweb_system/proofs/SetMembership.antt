@@ -1,10 +1,10 @@
 -- Membership in a set of file keys.
-use Rattle.std.proofs.Common.{◌≡◌, ◌↔◌, ◌⊎◌, inl, inr, ⊎_elim, Bool, true, false, cond, List, Contains, IsTrue, slice_index_or, sym, ◌∙◌, refl, ap, subst, nat_cmp}
+use Rattle.std.proofs.Common.{arith}
+use Rattle.std.proofs.Common.{◌≡◌, ◌↔◌, ◌⊎◌, inl, inr, Bool, true, false, cond, List, Contains, IsTrue, slice_index_or, sym, ◌∙◌, refl, ap, subst, nat_cmp}
 use Rattle.std.specs.declared.cmp.Ordering.{Ordering}
 use Rattle.std.specs.declared.cmp.Ordering.TheVariants.{Less, Equal, Greater}
 use Rattle.std.specs.List.{list_any, Any}
 use Rattle.std.specs.BTreeMap.{is_at}
-use Rattle.std.specs.Cmp.{nat_cmp_is}
 use Rattle.std.specs.Ordering.{is_eq, ordering_then}
 use Rattle.std.proofs.lemmas.List.Folds.{list_any_at, Any-from_list_any}
 use Rattle.std.proofs.lemmas.Map.Lookups.{exact_unsigned}
@@ -18,16 +18,10 @@ both_equal Equal Greater e = search
 both_equal _ b e = search
 
 same : (a b : FileKey) → (nat_cmp a.device b.device ≡ Equal) × (nat_cmp a.number b.number ≡ Equal) → b ≡ a
-same a b equal = sym (λ i. record {
-  device = exact_unsigned a.device b.device equal.0 i;
-  number = exact_unsigned a.number b.number equal.1 i;
-})
+same a b equal = grind (arith, exact_unsigned)
 
 itself : (a : FileKey) → is_at (compare_keys a) a ≡ true
-itself a =
-    ap is_eq
-    (ap (λ o. ordering_then o (nat_cmp a.number a.number)) (sym (nat_cmp_is a.device a.device Equal refl))
-    ∙ sym (nat_cmp_is a.number a.number Equal refl))
+itself a = grind arith
 
 found : (file : FileKey) (keys : List FileKey) → Any (λ k. is_at (compare_keys file) k ≡ true) keys → Contains keys file
 found file keys (n, k, within, at, equal) =
@@ -60,7 +54,4 @@ kept_among file keys after adds q was = adds q ∙ cond_kept (is_at (compare_key
 
 pub only_among : (file : FileKey) (keys after : List FileKey) → Adds file keys after → (q : FileKey)
     → IsTrue (is_among after q) → IsTrue (is_among keys q) ⊎ (q ≡ file)
-only_among file keys after adds q now = ⊎_elim
-    (λ (at : is_at (compare_keys file) q ≡ true). inr (same file q (both_equal _ _ at)))
-    (λ (was : is_among keys q ≡ true). inl was)
-    (cond_cases (is_at (compare_keys file) q) (is_among keys q) (sym (adds q) ∙ now))
+only_among file keys after adds q now = grind (arith, same, both_equal, cond_cases)

@@ -1,5 +1,6 @@
 -- Each call is a decent step.
-use Rattle.std.proofs.Common.{◌≡◌, ◌∙◌, ◌⊎◌, inl, inr, ⊎_elim, ◌∷◌, ◌++◌, [], ℕ, List, Bool, true, false, refl, sym, ap, subst, Option, Some, None, IsTrue}
+use Rattle.std.proofs.Common.{arith}
+use Rattle.std.proofs.Common.{◌≡◌, ◌∙◌, ◌⊎◌, inl, inr, ◌∷◌, ◌++◌, [], ℕ, List, Bool, true, false, refl, sym, ap, subst, Option, Some, None, IsTrue}
 use Rattle.std.specs.Prelude.{Result, Ok, Err, OnErr, IfOk, IfSome}
 use Rattle.std.specs.Str.{bytes_eq}
 use Rattle.std.proofs.lemmas.Slice.Eq.{bytes_eq-Decides}
@@ -9,32 +10,21 @@ use Rattle.cweb_system.specs.declared.node.Node.{Node}
 use Rattle.cweb_system.specs.Tree.{Tree, IsFile, bytes_of, Appends, Creates, MayCreate, Removes, Renames, SetsMode}
 use Rattle.cweb_system.specs.inner.Drafts.{IsAlone, KeepsDecent}
 use Rattle.cweb_system.specs.inner.Drafts.{IsDraftAlone, IsUnread}
-use Rattle.cweb_system.specs.Steps.{AreDecent, Arrives, Changes, Disk, IsDecent, IsDraftPlace, NotesFailure, OnDisk, Stays, TakesStep, view}
+use Rattle.cweb_system.specs.Steps.{Arrives, Changes, Disk, IsDecent, IsDraftPlace, NotesFailure, OnDisk, Stays}
 
 -- Equal functions are equal at each argument.
 pub same_at : {A B : Type 0} {f g : A → B} → f ≡ g → (x : A) → f x ≡ g x
 same_at {A} {B} e x = ap (λ (h : A → B). h x) e
 
 pub differs : (a b : List ℕ) → bytes_eq a b ≡ false → a ≡ b → ⊥
-differs a b test same =
-    let e : true ≡ false = sym ((bytes_eq-Decides a b).1 same) ∙ test in
-    cc
+differs a b test same = grind (arith, bytes_eq-Decides)
 
 -- A draft's path: a name with byte 127 after it.
 abbrev pub IsDraftPath : List ℕ → Type 0
 IsDraftPath path = (name : List ℕ) × (path ≡ name ++ 127 ∷ [])
 
-stepping : (read : List FileKey) (old new : Disk) → TakesStep old new → IsDecent read old.tree new.tree
-    → AreDecent read old.tree old.past → AreDecent read new.tree new.past
-stepping read old new step decent all = ⊎_elim
-    (λ (is : new.past ≡ old.tree ∷ old.past). subst (AreDecent read new.tree) (sym is) (decent, all))
-    (λ (same : (new.past ≡ old.past) × (new.tree ≡ old.tree)). subst (AreDecent read new.tree) (sym same.0)
-    (subst (λ (t : Tree). AreDecent read t old.past) (sym same.1) all))
-    step
-
 same_decent : (read : List FileKey) (a b : Tree) → b ≡ a → IsDecent read a b
-same_decent read a b same = subst (λ (t : Tree). IsDecent read a t) (sym same)
-    (λ p other. inl (record { node = refl; bytes = refl }))
+same_decent read a b same = grind arith
 
 by_result : {A : Type 0} (read : List FileKey) (change : A → Tree → Tree → Type 0) (a b : Tree) (r : Result A FileFault)
     → IfOk r (λ x. change x a b) → OnErr r (b ≡ a) → ((x : A) → change x a b → IsDecent read a b) → IsDecent read a b
@@ -51,38 +41,18 @@ pub keeps : {F A : Type 0} {disk : Option (F → Disk)} (read : List FileKey) (c
     → OnDisk disk (λ see. (x : A) → change x (see old).tree (see new).tree
     → IsDecent read (see old).tree (see new).tree)
     → KeepsDecent disk read old new
-keeps {F = F} {disk = disk} read change {old} {new} {r} c then =
-    let see : F → Disk = view disk in
-    record {
-      steps = λ some. stepping read (see old) (see new) (c.step some)
-          (by_result read change (see old).tree (see new).tree r (c.ok some) (c.err some) (then some));
-      failed = λ some. noted (see old).failed (see new).failed r (c.failed some);
-    }
+keeps {F = F} {disk = disk} read change {old} {new} {r} c then = grind (arith, by_result, noted)
 
 -- A call that changes the tree in one way changes it in another, too, where the one is a case of the other.
 pub changes_then : {F A : Type 0} {disk : Option (F → Disk)} (one other : A → Tree → Tree → Type 0) (old new : F)
     (r : Result A FileFault) → Changes disk one old new r
     → OnDisk disk (λ see. (x : A) → one x (see old).tree (see new).tree → other x (see old).tree (see new).tree)
     → Changes disk other old new r
-changes_then {A = A} one other old new r c then = record {
-  ok = λ some. along r (then some) (c.ok some);
-  err = c.err;
-  place = c.place;
-  step = c.step;
-  failed = c.failed;
-}
-  where
-    along : {a b : Tree} (s : Result A FileFault) → ((x : A) → one x a b → other x a b)
-        → IfOk s (λ x. one x a b) → IfOk s (λ x. other x a b)
-    along (Ok x) case is = case x is
-    along (Err e) case is = tt
+changes_then {A = A} one other old new r c then = grind arith
 
 pub keeps_then : {F : Type 0} {disk : Option (F → Disk)} {read : List FileKey} {a b c : F} → KeepsDecent disk read a b
     → KeepsDecent disk read b c → KeepsDecent disk read a c
-keeps_then first then = record {
-  steps = λ some all. then.steps some (first.steps some all);
-  failed = λ some is. then.failed some (first.failed some is);
-}
+keeps_then first then = grind arith
 
 kept : (old new : Tree) (o : Option Node) → ((k : FileKey) → IsFile k o → new.bytes k ≡ old.bytes k)
     → bytes_of new o ≡ bytes_of old o
@@ -91,10 +61,7 @@ kept old new _ same = refl
 
 stays : (old new : Tree) (p : List ℕ) → new.node p ≡ old.node p
     → ((k : FileKey) → IsFile k (old.node p) → new.bytes k ≡ old.bytes k) → Stays old new p
-stays old new p node bytes = record {
-  node = node;
-  bytes = ap (bytes_of new) node ∙ kept old new (old.node p) bytes;
-}
+stays old new p node bytes = grind (arith, kept)
 
 -- The place of a draft's path is a draft's place.
 pub place_is : (tree : Tree) (path p : List ℕ) → IsDraftPath path → p ≡ tree.place path → IsDraftPlace tree p
@@ -102,9 +69,7 @@ place_is tree path p (name, is) at_path = (name, ap tree.place (sym is) ∙ sym 
 
 pub creates_decent : (read : List FileKey) (path : List ℕ) (key : FileKey) (old new : Tree) → IsDraftPath path
     → Creates path key old new → IsDecent read old new
-creates_decent read path key old new draft made p other = inl (stays old new p
-    (made.others p (λ e. other (place_is old path p draft e)))
-    (λ k is. made.bytes k (λ e. made.fresh p (subst (λ (f : FileKey). IsFile f (old.node p)) e is))))
+creates_decent read path key old new draft made p other = grind (arith, stays, place_is)
 
 -- A file was created, or something was there.
 pub may_create_decent : {H : Type 0} (read : List FileKey) (key : H → FileKey) (path : List ℕ) (made : Option H)
@@ -114,18 +79,15 @@ may_create_decent read key path None old new draft made = same_decent read old n
 
 pub removes_decent : (read : List FileKey) (path : List ℕ) (old new : Tree) → IsDraftPath path
     → Removes path old new → IsDecent read old new
-removes_decent read path old new draft gone p other = inl (stays old new p
-    (gone.others p (λ e. other (place_is old path p draft e))) (λ k is. same_at gone.bytes k))
+removes_decent read path old new draft gone p other = grind (arith, stays, place_is, same_at)
 
 pub appends_decent : (read : List FileKey) (key : FileKey) (piece : List ℕ) (old new : Tree) → IsDraftAlone key old
     → Appends key piece old new → IsDecent read old new
-appends_decent read key piece old new alone appends p other = inl (stays old new p (same_at appends.node p)
-    (λ k is. appends.others k (λ e. other (alone p (subst (λ (f : FileKey). IsFile f (old.node p)) e is)))))
+appends_decent read key piece old new alone appends p other = grind (arith, stays, same_at)
 
 pub sets_mode_decent : (read : List FileKey) (key : FileKey) (mode : ℕ) (old new : Tree) → IsDraftAlone key old
     → SetsMode key mode old new → IsDecent read old new
-sets_mode_decent read key mode old new alone sets p other =
-    inl (stays old new p (sets.others p (λ is. other (alone p is))) (λ k is. same_at sets.bytes k))
+sets_mode_decent read key mode old new alone sets p other = grind (arith, stays, same_at)
 
 pub renames_decent : (read : List FileKey) (from to : List ℕ) (old new : Tree) → IsDraftPath from
     → new.place ≡ old.place → IsUnread read to old → Renames from to old new → IsDecent read old new
@@ -139,8 +101,7 @@ renames_decent read from to old new draft places unread renames p other = by_tes
       draft = old.place from;
       was = place_is old from (old.place from) draft refl;
       node = here ((bytes_eq-Decides p (old.place to)).0 e);
-      bytes = ap (bytes_of new) (here ((bytes_eq-Decides p (old.place to)).0 e))
-          ∙ kept old new (old.node (old.place from)) (λ k is. same_at renames.bytes k);
+      bytes = grind (arith, bytes_eq-Decides, kept, same_at);
       unread = λ key among is. unread key among
           (subst (λ (q : List ℕ). IsFile key (old.node q)) ((bytes_eq-Decides p (old.place to)).0 e) is);
     })
@@ -158,14 +119,11 @@ at_place p place not_apart = by_test (bytes_eq p place) refl
 -- A new file has one name.
 alone_new : (path : List ℕ) (key : FileKey) (old new : Tree) → new.place ≡ old.place → Creates path key old new
     → IsAlone key path new
-alone_new path key old new places made p is = at_place p (old.place path)
-    (λ apart. made.fresh p (subst (IsFile key) (made.others p apart) is)) ∙ same_at (sym places) path
+alone_new path key old new places made p is = grind (arith, at_place, same_at)
 
 alone_moded : (path : List ℕ) (key : FileKey) (mode : ℕ) (old new : Tree) → new.place ≡ old.place
     → SetsMode key mode old new → IsAlone key path old → IsAlone key path new
-alone_moded path key mode old new places sets alone p is = at_place p (old.place path)
-    (λ apart. apart (alone p (subst (IsFile key) (sets.others p (λ was. apart (alone p was))) is)))
-    ∙ same_at (sym places) path
+alone_moded path key mode old new places sets alone p is = grind (arith, at_place, same_at)
 
 pub alone_created : {H : Type 0} (key : H → FileKey) (path : List ℕ) (old new : Tree) (r : Result (Option H) FileFault)
     → new.place ≡ old.place → IfOk r (λ made. MayCreate key path made old new)
@@ -178,5 +136,4 @@ pub alone_set : {A : Type 0} (path : List ℕ) (key : FileKey) (mode : ℕ) (old
     → new.place ≡ old.place → IfOk r (λ _. SetsMode key mode old new) → OnErr r (new ≡ old) → IsAlone key path old
     → IsAlone key path new
 alone_set path key mode old new (Ok x) places sets same = alone_moded path key mode old new places sets
-alone_set path key mode old new (Err e) places sets same =
-    subst (λ (t : Tree). IsAlone key path t) (sym same)
+alone_set path key mode old new (Err e) places sets same = grind arith

@@ -1,5 +1,6 @@
 -- The committed files as the file system shows them, after calls that leave them alone, and after a commit.
-use Rattle.std.proofs.Common.{◌≡◌, ◌∙◌, ℕ, List, [], ◌∷◌, ◌++◌, Bool, true, false, not, cond, map, refl, sym, ap, subst, string_bytes, Option, Some, slice_index_or}
+use Rattle.std.proofs.Common.{arith}
+use Rattle.std.proofs.Common.{◌≡◌, ◌∙◌, ℕ, List, [], ◌∷◌, ◌++◌, Bool, true, false, not, cond, map, refl, sym, ap, subst, string_bytes, Option, Some}
 use Rattle.std.proofs.lemmas.List.{map-append}
 use Rattle.std.proofs.lemmas.List.Elements.{All-nil, All-cons, All-head, All-tail, All-push}
 use Rattle.std.proofs.lemmas.Slice.Eq.{bytes_eq-Decides}
@@ -9,7 +10,7 @@ use Rattle.cweb_files.specs.Files.{put_file, without}
 use Rattle.cweb_system.specs.declared.node.FileKey.{FileKey}
 use Rattle.cweb_system.specs.declared.node.Node.{Node}
 use Rattle.cweb_system.specs.declared.written.WrittenFile.{WrittenFile}
-use Rattle.cweb_system.specs.Tree.{Tree, at, bytes_of, contents, IsFile, Appends}
+use Rattle.cweb_system.specs.Tree.{Tree, at, bytes_of, IsFile, Appends}
 use Rattle.cweb_system.specs.inner.Written.{FilesAreThere, IsNew, IsUnnamed, Leaves, Places}
 use Rattle.cweb_system.specs.Bins.{file_in}
 use Rattle.cweb_system.proofs.Steps.{differs, same_at}
@@ -19,13 +20,6 @@ pub bytes_is : (tree : Tree) (o : Option Node) (key : FileKey) → IsFile key o 
 bytes_is tree (Some (Node.File k m)) key is = ap tree.bytes is
 bytes_is tree _ key is = absurd is
 
-file_same : (old new : Tree) (w : WrittenFile) → IsFile w.key (at old (string_bytes w.name))
-    → IsFile w.key (at new (string_bytes w.name)) → new.bytes w.key ≡ old.bytes w.key → file_in new w ≡ file_in old w
-file_same old new w was is bytes =
-    let name = string_bytes w.name in
-    ap (λ (b : List ℕ). record { name = name; bytes = b })
-    (bytes_is new (at new name) w.key is ∙ bytes ∙ sym (bytes_is old (at old name) w.key was))
-
 pub map_same : {A B : Type 0} (f g : A → B) (xs : List A) → All (λ (x : A). f x ≡ g x) xs → map f xs ≡ map g xs
 map_same f g [] all = refl
 map_same f g (x ∷ xs) all =
@@ -33,26 +27,16 @@ map_same f g (x ∷ xs) all =
 
 pub files_left : (written : List WrittenFile) (old new : Tree) → FilesAreThere old written → Leaves written old new
     → map (file_in new) written ≡ map (file_in old) written
-files_left written old new stand leaves = map_same (file_in new) (file_in old) written
-    (λ k d within. let there = stand k d within in
-    file_same old new (slice_index_or written k d) there (leaves.entries k d within there) (leaves.bytes k d within))
+files_left written old new stand leaves = grind (arith, map_same, bytes_is)
 
 -- They show what they showed, if the list is the same.
 pub files_then : {ws now : List WrittenFile} {old new : Tree} → now ≡ ws → FilesAreThere old ws → Leaves ws old new
     → map (file_in new) now ≡ map (file_in old) ws
-files_then {ws} {now} {old} {new} same there leaves =
-    ap (λ (l : List WrittenFile). map (file_in new) l) same ∙ files_left ws old new there leaves
+files_then {ws} {now} {old} {new} same there leaves = grind (arith, files_left)
 
 -- Whether a file isn't of this name.
 abbrev pub is_other : List ℕ → WrittenFile → Bool
 is_other name w = not (bytes_eq (string_bytes w.name) name)
-
-apart_other : (a b : List ℕ) → (a ≡ b → ⊥) → not (bytes_eq a b) ≡ true
-apart_other a b apart = by_test (bytes_eq a b) refl
-  where
-    by_test : (t : Bool) → bytes_eq a b ≡ t → not t ≡ true
-    by_test true e = absurd (apart ((bytes_eq-Decides a b).0 e))
-    by_test false e = refl
 
 -- A filter that each element passes.
 filter_all : (p : WrittenFile → Bool) (ws : List WrittenFile) → All (λ w. p w ≡ true) ws → filter p ws ≡ ws
@@ -62,8 +46,7 @@ filter_all p (w ∷ ws) all =
     ∙ ap (λ (l : List WrittenFile). w ∷ l) (filter_all p ws (All-tail (λ v. p v ≡ true) w ws all))
 
 pub none_removed : (name : List ℕ) (ws : List WrittenFile) → IsUnnamed name ws → ws ≡ filter (is_other name) ws
-none_removed name ws unnamed = sym (filter_all (is_other name) ws
-    (λ k d within. apart_other (string_bytes (slice_index_or ws k d).name) name (unnamed k d within)))
+none_removed name ws unnamed = grind (arith, filter_all, bytes_eq-Decides)
 
 abbrev IfOther : (WrittenFile → Type 0) → List ℕ → WrittenFile → Type 0
 IfOther P name w = (string_bytes w.name ≡ name → ⊥) → P w
@@ -104,19 +87,7 @@ pub committing : (ws after : List WrittenFile) (w : WrittenFile) (name : List �
     → Places name w.key ws old new → string_bytes w.name ≡ name → after ≡ filter (is_other name) ws ++ w ∷ []
     → map (file_in new) after ≡ put_file (map (file_in old) ws) (record { name = name; bytes = old.bytes w.key })
 committing ws after w name old new stand places named is =
-    ap (map (file_in new)) is ∙ map-append (file_in new) (filter (is_other name) ws) (w ∷ [])
-    ∙ (λ i. others_same old new name ws others i ++ this i ∷ [])
-  where
-    others : All (λ (v : WrittenFile). (string_bytes v.name ≡ name → ⊥) → file_in new v ≡ file_in old v) ws
-    others k d within differ = file_same old new (slice_index_or ws k d) (stand k d within)
-        (places.entries k d within differ) (same_at places.bytes (slice_index_or ws k d).key)
-
-    this : file_in new w ≡ record { name = name; bytes = old.bytes w.key }
-    this = λ i. record { name = named i; bytes = holds i }
-      where
-        holds : contents new (string_bytes w.name) ≡ old.bytes w.key
-        holds = ap (contents new) named ∙ bytes_is new (at new name) w.key places.there
-            ∙ same_at places.bytes w.key
+    grind (arith, map-append, others_same, same_at, bytes_is)
 
 pub stands_then : (ws after : List WrittenFile) (w : WrittenFile) (name : List ℕ) (old new : Tree)
     → Places name w.key ws old new → string_bytes w.name ≡ name → after ≡ filter (is_other name) ws ++ w ∷ []
@@ -129,17 +100,7 @@ stands_then ws after w name old new places named is = subst (λ (l : List Writte
 -- Bytes of a draft leave the committed files alone.
 pub appending : (ws : List WrittenFile) (key file : FileKey) (piece : List ℕ) (old new : Tree) → IsNew key ws
     → file ≡ key → new.place ≡ old.place → Appends file piece old new → Leaves ws old new
-appending ws key file piece old new is_new same places appends = record {
-  place = places;
-  entries = λ k d within is. subst (IsFile (slice_index_or ws k d).key)
-      (sym (same_at appends.node (new.place (string_bytes (slice_index_or ws k d).name))
-      ∙ ap old.node (same_at places (string_bytes (slice_index_or ws k d).name)))) is;
-  bytes = λ k d within. appends.others (slice_index_or ws k d).key (λ e. is_new k d within (e ∙ same));
-}
+appending ws key file piece old new is_new same places appends = grind (arith, same_at)
 
 pub leaves_then : (ws : List WrittenFile) (a b c : Tree) → Leaves ws a b → Leaves ws b c → Leaves ws a c
-leaves_then ws a b c first then = record {
-  place = then.place ∙ first.place;
-  entries = λ k d within is. then.entries k d within (first.entries k d within is);
-  bytes = λ k d within. then.bytes k d within ∙ first.bytes k d within;
-}
+leaves_then ws a b c first then = grind arith

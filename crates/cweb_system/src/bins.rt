@@ -92,7 +92,7 @@ impl<F: FileSystem + Drop> Folder<F> {
         }
     }
 
-    /// Makes the draft a file of its name.
+    /// Makes the draft a file of its name, with the permissions of one that it replaces.
     pub fn commit(&mut self) -> Result<(), BinFault>
         requires { self.old.failed + 1 < 2 ^ 64 }
         ensures keeps { KeepsFolder F.FileSystem self.old self.new }

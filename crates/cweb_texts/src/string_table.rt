@@ -54,7 +54,7 @@ impl StringTable {
         }
     }
 
-    /// Appends a string that is not interned, and returns its number.
+    /// Appends a string that is not interned, and returns its number. A refused call changes nothing.
     pub fn add_string(&mut self, string: &[u8]) -> Result<u32, AllocError>
         requires few { length self.old.strings + 1 < string_limit }
         ensures { TakesString self.old string.now result self.new }
@@ -63,8 +63,8 @@ impl StringTable {
         Ok(number as u32)
     }
 
-    /// Interns a word or a number, and returns its number in the table. The fast path finds a short word that is the latest
-    /// of its bucket. It calls no function, so long words, whose key is a hash, leave it first.
+    /// Interns a word or a number, and returns its number in the table: an equal one keeps its number.
+    // The fast path finds a short word, the latest of its bucket, and calls no function. So long words leave it first.
     pub fn intern_word(&mut self, word: &[u8]) -> Result<u32, AllocError>
         requires few { length self.old.strings + 1 < string_limit }
         ensures { TakesWord self.old word.now result self.new }
@@ -183,14 +183,6 @@ impl StringTable {
         ensures { result.now ≡ self.now.strings }
     {
         &self.strings
-    }
-
-    /// The strings. What finds interned words is dropped.
-    pub fn close(self) -> StringList
-        ensures { result ≡ self.strings }
-    {
-        let StringTable { strings: list, .. } = self;
-        list
     }
 }
 

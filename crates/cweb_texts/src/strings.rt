@@ -91,7 +91,7 @@ impl StringList {
         self.edges.truncate(count);
     }
 
-    /// The strings, as slices.
+    /// The strings as slices, with their edges.
     #[inline(always)]
     pub fn slices(&self) -> StringSlices<'_>
         ensures { result ≡ self.now }

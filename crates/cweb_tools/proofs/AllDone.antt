@@ -1,5 +1,5 @@
 -- The devices after all acts were done.
-use Rattle.cweb_tools.proofs.Common.{◌≡◌, inl, inr, List, [], ◌∷◌, sym, ◌∙◌, ap, refl, None, File, flat_map, line, Devices, Act, says, writes, after_act, with_printed, written, PerformsActs, written_files, files_in, logged_items, prints, merges, printed_bytes, written_lines, emitted_lines}
+use Rattle.cweb_tools.proofs.Common.{◌≡◌, inl, inr, List, [], ◌∷◌, sym, ◌∙◌, ap, refl, None, File, flat_map, line, Devices, Act, says, writes, after_act, written, PerformsActs, written_files, files_in, logged_items, prints, merges, printed_bytes, arith}
 use Rattle.cweb_files.specs.Files.{put_file}
 use Rattle.cweb_files.proofs.Appending.{written_none, written_on, written_then}
 use Rattle.std.specs.Prelude.{fold, option_map}
@@ -13,15 +13,11 @@ pub files_all : (acts : List Act) (old new : Devices) → PerformsActs acts None
 files_all [] old new is = ap (λ (d : Devices). files_in d.out) is ∙ sym (option_map_id (files_in old.out))
 files_all (act ∷ acts) old new (inr stop) = absurd stop
 files_all (writes name text ∷ acts) old new (inl run) =
-    files_all acts (after_act (writes name text) old) new run.1
-    ∙ put_first (record { name = name; bytes = text }) (written_files acts) old.out
+    grind (arith, put_first, files_all acts (after_act (writes name text) old) new run.1)
 files_all (merges names events ∷ acts) old new (inl run) =
-    files_all acts (after_act (merges names events) old) new run.1
-    ∙ ap (option_map (λ (files : List File). fold put_file files (written_files acts)))
-    (files_stay (with_printed _) (λ now. refl) old.out)
-files_all (prints text ∷ acts) old new (inl run) = files_all acts (after_act (prints text) old) new run.1
-    ∙ ap (option_map (λ (files : List File). fold put_file files (written_files acts)))
-    (files_stay (with_printed text) (λ now. refl) old.out)
+    grind (arith, files_stay, files_all acts (after_act (merges names events) old) new run.1)
+files_all (prints text ∷ acts) old new (inl run) =
+    grind (arith, files_stay, files_all acts (after_act (prints text) old) new run.1)
 files_all (act ∷ acts) old new (inl run) = files_all acts (after_act act old) new run.1
 
 -- The log.
@@ -40,8 +36,7 @@ printed_all [] old new none is = ap (λ (d : Devices). d.out) is ∙ written_non
 printed_all (act ∷ acts) old new none (inr stop) = absurd stop
 printed_all (writes name text ∷ acts) old new none (inl run) = absurd (cc)
 printed_all (merges names events ∷ acts) old new none (inl run) =
-    printed_all acts (after_act (merges names events) old) new none run.1
-    ∙ written_on (written_lines (emitted_lines events)) (printed_bytes acts) old.out
+    grind (arith, written_on, printed_all acts (after_act (merges names events) old) new none run.1)
 printed_all (prints text ∷ acts) old new none (inl run) =
     printed_all acts (after_act (prints text) old) new none run.1 ∙ written_on text (printed_bytes acts) old.out
 printed_all (act ∷ acts) old new none (inl run) = printed_all acts (after_act act old) new none run.1

@@ -15,8 +15,7 @@ taken_more args at x is = take_more args at [] (slice_get_within args at x is)
 pub words_more : (words : List (String Global)) (word : String Global) (args : List (List ℕ)) (at : ℕ)
     → map string_bytes words ≡ take at args → slice_get args at ≡ Some (string_bytes word)
     → map string_bytes (words ++ word ∷ []) ≡ take (at + 1) args
-words_more words word args at before is = map-append string_bytes words (word ∷ [])
-    ∙ ap (λ (ys : List (List ℕ)). ys ++ string_bytes word ∷ []) before ∙ sym (taken_more args at (string_bytes word) is)
+words_more words word args at before is = grind (arith, map-append, taken_more)
 
 one_valid : (x : List ℕ) → IsUtf8 x → All IsUtf8 (x ∷ [])
 one_valid x valid zero d within = valid

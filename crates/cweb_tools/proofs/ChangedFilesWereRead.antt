@@ -1,7 +1,7 @@
 -- A run that changed the bins has read everything.
 use Rattle.cweb_tools.proofs.Common.{◌≡◌, ◌≢◌, ◌⊎◌, inl, inr, ℕ, ◌+◌, Bool, false, List, [], ◌∷◌, ◌++◌, ◌∙◌, ap, Some, Stop, ReadFault, LogItem, banner, fault_count, Shown, Devices, FailedReads, SinkModel, Act, says, opens, reads, merges, writes, prints, after_act, ending, Breaks, PerformsActs, RunEnds, completes, stops, when, TangleCourse, unread, not_there, change_not_there, tangling, script, web_acts, planned_acts, closing_acts, Planning, refused, planned, Web, ActsKeepLimits, HasReadAll}
 use Rattle.cweb_tools.proofs.Broken.{broken}
-use Rattle.cweb_tools.proofs.WebActs.{when_on, said_on, starred_on, outputs_on, closing_on}
+use Rattle.cweb_tools.proofs.WebActs.{Any, when_on, said_on, starred_on, outputs_on, closing_on, warning_on}
 use Rattle.cweb_tools.proofs.Doing.{counts_all}
 use Rattle.cweb_tools.proofs.Endings.{limits_all}
 
@@ -57,10 +57,6 @@ shelf_none (act ∷ acts) stop about old new none (inl run) =
     shelf_none acts stop about (after_act act old) new none run.1
 shelf_none (act ∷ acts) stop about old new none (inr here) = shelf_stays act stop about old new tt here
 
--- Any item may be logged.
-abbrev Any : LogItem → Type 0
-Any item = Unit {0}
-
 reads_none-web : (shown : Shown) (web : Web) → ReadsNone (web_acts shown web)
 reads_none-web shown web = starred_on Any ReadsNone said shown.progress web.starred _ (λ ns. tt)
     (said_on Any ReadsNone said web.faults _ (λ item. tt) (planned_none web.plan))
@@ -74,12 +70,12 @@ reads_none-web shown web = starred_on Any ReadsNone said shown.progress web.star
     planned_none : (plan : Planning) → ReadsNone (planned_acts shown web.numbers (fault_count web.faults) plan)
     planned_none (refused text) = closing_none (fault_count web.faults + 1) false
     planned_none (planned files missing) =
-        when_on Any ReadsNone said missing _ _ tt (outputs_on Any ReadsNone said shown.progress files _
+        warning_on Any ReadsNone said shown _ _ files missing tt (outputs_on Any ReadsNone said shown.progress files _
         (λ name. tt) (λ name text acts none. none) (closing_none (fault_count web.faults) missing))
 
 reads_first-banner : (shown : Shown) (acts : List Act) → ReadsFirst acts → ReadsFirst (when shown.banner banner ++ acts)
 reads_first-banner shown acts first =
-    when_on (λ item. Unit {0}) ReadsFirst (λ item acts said rest. rest) shown.banner banner acts tt first
+    when_on Any ReadsFirst (λ item acts said rest. rest) shown.banner banner acts tt first
 
 -- A script reads nothing after the first file is written.
 pub script_reads_first : (shown : Shown) (course : TangleCourse) → ReadsFirst (script shown course)

@@ -54,7 +54,7 @@ pub use Rattle.cweb_log.specs.Items.{located, banner, closing, faults, no_errors
 pub use Rattle.cweb_log.specs.Items.{name_item, name_items, scan_item, refusal_message}
 pub use Rattle.cweb_log.specs.Log.{stop_line, file_name_at}
 pub use Rattle.cweb_log.specs.inner.LogText.{items_of, start_subject, subject, plan_item}
-pub use Rattle.cweb_log.specs.declared.shown.Shown.{Shown}
+pub use Rattle.cweb_log.specs.declared.options.Shown.{Shown}
 pub use Rattle.cweb_log.specs.surface.Options.{options_of}
 pub use Rattle.cweb_names.specs.declared.name.NameId.{NameId}
 pub use Rattle.cweb_out.specs.Expansion.{expand, expanded_name, put, joined, names, program, resolved_use}

@@ -1,5 +1,5 @@
 -- The way that a run goes exists, and there is no other.
-use Rattle.cweb_tools.proofs.Common.{◌≡◌, ◌∙◌, ℕ, List, Bor, map, options_by, Option, Some, None, Result, Err, Stop, refl, sym, ap, World, Found, WebNames, OptionsModel, Course, change_name, merging, IsMergeCourse, found_course, merge_course, merge-run_steps, contents_found, TangleCourse, IsTangleCourse, tangle_course, tangled, web_at, change_at, started}
+use Rattle.cweb_tools.proofs.Common.{◌≡◌, ◌∙◌, ℕ, List, Bor, map, options_by, Option, Some, None, Result, Err, Stop, refl, ap, World, Found, WebNames, OptionsModel, Course, change_name, merging, IsMergeCourse, found_course, merge_course, merge-run_steps, contents_found, TangleCourse, IsTangleCourse, tangle_course, tangled, started, arith}
 use Rattle.cweb_lines.proofs.EnoughSteps.{merge_yields}
 use Rattle.cweb_tools.specs.Course.{IsFoundCourse, unread, not_there, change_not_there}
 
@@ -13,22 +13,19 @@ found_only : (world : World) (names : WebNames) (web : Option Found) (change : O
     → IsFoundCourse world names web change course → course ≡ found_course world names web change
 found_only world names None change course is = is
 found_only world names (Some web) None course is = is
-found_only world names (Some web) (Some change) (merging files events) is = λ i.
-    merging (is.0 i) (sym (merge-run_steps is.1.0 world (started web.1 (contents_found change)) events is.1.1) i)
+found_only world names (Some web) (Some change) (merging files events) is = grind (arith, merge-run_steps)
 found_only world names (Some web) (Some change) unread is = absurd is
 found_only world names (Some web) (Some change) (not_there name) is = absurd is
 found_only world names (Some web) (Some change) (change_not_there name) is = absurd is
 
 pub merge_comes : (world : World) (args : Option WebNames) → IsMergeCourse world args (merge_course world args)
 merge_comes world None = refl
-merge_comes world (Some names) =
-    found_comes world names (web_at world.texts names.web names.second) (change_at world.texts names.change)
+merge_comes world (Some names) = grind (arith, found_comes)
 
 pub merge_only : (world : World) (args : Option WebNames) (course : Course) → IsMergeCourse world args course
     → course ≡ merge_course world args
 merge_only world None course is = is
-merge_only world (Some names) course is =
-    found_only world names (web_at world.texts names.web names.second) (change_at world.texts names.change) course is
+merge_only world (Some names) course is = grind (arith, found_only)
 
 pub tangle_comes : (world : World) (args : Option OptionsModel)
     → IsTangleCourse world args (tangle_course world args)
@@ -59,9 +56,6 @@ no_web world names (Some web) changes is = absurd (cc)
 pub no_change : (world : World) (names : WebNames) (found : Option Found) (changes : Option (Option Found))
     → (web : Found) × (found ≡ Some web) → changes ≡ None
     → change_not_there (change_name names.change) ≡ found_course world names found changes
-no_change world names None changes web is = absurd (no_some web)
-  where
-    no_some : (web : Found) × (None ≡ Some web) → ⊥
-    no_some web = let is : None ≡ Some web.0 = web.1 in cc
+no_change world names None changes web is = grind arith
 no_change world names (Some found) None web is = refl
 no_change world names (Some found) (Some change) web is = absurd (cc)

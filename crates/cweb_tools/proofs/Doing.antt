@@ -1,5 +1,5 @@
 -- The effect of consecutive calls on the devices.
-use Rattle.cweb_tools.proofs.Common.{reads, ◌≡◌, inl, inr, ℕ, List, [], ◌∷◌, ◌++◌, refl, ap, Option, Some, None, IsErr, Result, Ok, Err, Ending, ending, LogFault, SinkModel, Devices, FailedReads, Act, Breaks, PerformsActs, LogsStop, RunEnds, completes, stops, after_act, says, merges, Does, DoesInBoth, DoesInLog, log_ending}
+use Rattle.cweb_tools.proofs.Common.{reads, ◌≡◌, inl, inr, ℕ, List, [], ◌∷◌, ◌++◌, refl, Option, Some, None, IsErr, Result, Ok, Err, Ending, ending, LogFault, SinkModel, Devices, FailedReads, Act, Breaks, PerformsActs, LogsStop, RunEnds, completes, stops, after_act, says, merges, Does, DoesInBoth, DoesInLog, log_ending, arith}
 use Rattle.cweb_tools.proofs.Running.{runs_on, stops_in}
 
 pub does_none : {seen : Devices} → Does [] None seen seen
@@ -8,8 +8,7 @@ does_none = record { runs = refl }
 -- The first acts were done, and then the others.
 pub does_on : {xs ys : List Act} {why : Option Ending} {before mid after : Devices}
     → Does xs None before mid → Does ys why mid after → Does (xs ++ ys) why before after
-does_on {xs} {ys} {why} {before} {mid} {after} first then =
-    record { runs = runs_on xs ys why before mid after first.runs then.runs }
+does_on {xs} {ys} {why} {before} {mid} {after} first then = grind (arith, runs_on)
 
 -- Something stopped the first acts.
 pub does_in : {xs : List Act} (ys : List Act) {why : Ending} {before after : Devices}
@@ -43,11 +42,7 @@ ends_halted {why = why} {then = then} does logs answered = stops why then does.r
 -- Acts that nothing stopped failed no device.
 pub counts_all : (acts : List Act) (old new : Devices) → PerformsActs acts None old new
     → (new.shelf.failed ≡ old.shelf.failed) × (new.out.failed ≡ old.out.failed) × (new.log.failed ≡ old.log.failed)
-counts_all [] old new is = (
-  ap (λ (d : Devices). d.shelf.failed) is,
-  ap (λ (d : Devices). d.out.failed) is,
-  ap (λ (d : Devices). d.log.failed) is,
-)
+counts_all [] old new is = grind arith
 counts_all (act ∷ acts) old new (inr stop) = absurd stop
 counts_all (says item ∷ acts) old new (inl run) = counts_all acts (after_act (says item) old) new run.1
 counts_all (act ∷ acts) old new (inl run) = counts_all acts (after_act act old) new run.1

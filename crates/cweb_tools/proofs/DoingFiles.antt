@@ -1,5 +1,5 @@
 -- A file that is written, and the end of a run after calls.
-use Rattle.cweb_tools.proofs.Common.{◌≡◌, inl, inr, ℕ, Bool, List, [], ◌∷◌, ◌++◌, refl, ap, subst, Option, Some, None, Result, Ok, Err, Stop, WriteFault, LogFault, Memory, stop_line, Logs, SinkModel, changed, failing, with_file, without_file, writes, DoesInBoth, DoesInOut, Shown, Act, Breaks, Ending, ending, plans, reserves, Does, RunEnds, Devices, FailedReads, at, EndsInLog, DoesInLog, log_ending, Numbers, closing_acts, when, Scanned}
+use Rattle.cweb_tools.proofs.Common.{◌≡◌, inl, inr, ℕ, Bool, List, [], ◌∷◌, ◌++◌, refl, ap, Option, Some, None, Result, Ok, Err, Stop, WriteFault, LogFault, Memory, stop_line, Logs, SinkModel, changed, failing, with_file, without_file, writes, DoesInBoth, DoesInOut, Shown, Act, Breaks, Ending, ending, plans, reserves, Does, RunEnds, Devices, FailedReads, at, EndsInLog, DoesInLog, log_ending, Numbers, closing_acts, when, Scanned, arith}
 use Rattle.cweb_log.specs.Items.{counts}
 use Rattle.cweb_tools.specs.Tangle.{numbers_of}
 use Rattle.cweb_tools.proofs.Doing.{ends_done, ends_halted, ends_in, no_shelf}
@@ -49,16 +49,14 @@ pub closing_on : (shown : Shown) (n : Numbers)
     {count count' : ℕ} {missing missing' : Bool} {why : Option Ending} {old new : SinkModel}
     → count ≡ count' → missing ≡ missing' → DoesInLog (closing_acts shown n count missing) why old new
     → DoesInLog (closing_acts shown n count' missing') why old new
-closing_on shown n {why = why} {old} {new} of_faults of_text does = subst (λ (acts :
-    List Act). DoesInLog acts why old new) (λ i. closing_acts shown n (of_faults i) (of_text i)) does
+closing_on shown n {why = why} {old} {new} of_faults of_text does = grind arith
 
 -- The counts of a scanned web, by the numbers of its names and macros.
 pub counts_on : (wanted : Bool) (made : Scanned) {n m : ℕ} {why : Option Ending} {old new : SinkModel}
     → n ≡ (numbers_of made).names → m ≡ (numbers_of made).macros
     → DoesInLog (when wanted (counts made.sections n m)) why old new
     → DoesInLog (when wanted (counts made.sections (numbers_of made).names (numbers_of made).macros)) why old new
-counts_on wanted made {why = why} {old} {new} names macros does = subst (λ (acts : List Act). DoesInLog acts why old
-    new) (λ i. when wanted (counts made.sections (names i) (macros i))) does
+counts_on wanted made {why = why} {old} {new} names macros does = grind arith
 
 -- Only a log fault increases the log's failure count.
 pub stop_counted : (stop : Stop) {about : List ℕ} → (stop ≡ LogFault → ⊥) → {acts : List Act} {a b : SinkModel}

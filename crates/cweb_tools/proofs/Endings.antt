@@ -13,12 +13,7 @@ limits_all (act ∷ acts) old new (inr stop) = absurd stop
 
 does_all : {acts : List Act} {expected : ℕ} {old new : Devices} {status : ℕ}
     → PerformsActs acts None old new → status ≡ expected → DoesAll acts expected old new status
-does_all {acts} {old} {new} run answered =
-    record {
-      files = files_all acts old new run;
-      log = ap (λ (log : SinkModel). log.contents) (log_all acts old new run);
-      answered = answered;
-    }
+does_all {acts} {old} {new} run answered = grind (arith, files_all, log_all)
 
 pub ends_so : {acts : List Act} {expected : ℕ} {old new : Devices} {status : ℕ}
     → RunEnds acts expected old new status → IsEnded acts expected old new status
@@ -93,11 +88,9 @@ pub runs_freely : {acts : List Act} {expected : ℕ} {old new : Devices} {status
     → RunEnds acts expected old new status → RanFreely acts old new → PerformsActs acts None old new ×
     (status ≡ expected)
 runs_freely (completes run answered) free = (run, answered)
-runs_freely {old = old} (stops (ending stop about) then run logs answered) free =
-    absurd (stop_is_free stop about old then run logs free)
+runs_freely {old = old} (stops (ending stop about) then run logs answered) free = grind (arith, stop_is_free)
 
 pub ends_within : {acts : List Act} {expected : ℕ} {old new : Devices} {status : ℕ}
     → RunEnds acts expected old new status → ¬ ActsKeepLimits acts → status ≡ 1
-ends_within {acts} {old = old} {new = new} (completes run answered) beyond =
-    absurd (beyond (limits_all acts old new run))
+ends_within {acts} {old = old} {new = new} (completes run answered) beyond = grind (arith, beyond, limits_all)
 ends_within (stops why then run logs answered) beyond = answered

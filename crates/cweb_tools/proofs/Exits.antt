@@ -34,9 +34,4 @@ module _ (first : List (List ℕ)) (all : List Event) (old new : SoFar)
   faults_reported = yields.faults ∙ (λ i. (began i).faults ++ reported_faults (came i))
 
   pub limits_kept : new.count.lines ≤ LINES → new.count.bytes ≤ BYTES → IsWithinLimits (taken_lines all)
-  limits_kept few small =
-      rw (← came) (record {
-        short = yields.short;
-        few = omega (arith, yields.lines_are, few);
-        small = omega (arith, yields.bytes_are, small);
-      })
+  limits_kept few small = grind (arith, came)

@@ -1,5 +1,5 @@
 -- The faults of a web as items: their number and their lines.
-use Rattle.cweb_tools.proofs.Common.{◌≡◌, ◌<◌, ◌+◌, ℕ, zero, suc, Bool, true, false, cond, List, [], ◌∷◌, ◌++◌, length, map, refl, sym, ◌∙◌, ap, arith, length-append, flat_map-append, length-map, sum_by-append, sum_by-cons, flat_map, None, Result, count_by, SourceFault, Part, is_macro, numbers_from, numbers_where, PartKind, Scanned, Wrote, LogItem, fault_count, is_fault, line, source_item, SinkModel, name_item, name_items, scan_item, says, DoesInLog, EndsInLog, acts_status, log_ending, web_of}
+use Rattle.cweb_tools.proofs.Common.{◌≡◌, ◌<◌, ◌+◌, ℕ, zero, suc, Bool, true, false, cond, List, [], ◌∷◌, ◌++◌, length, map, refl, sym, ◌∙◌, ap, arith, length-append, flat_map-append, length-map, sum_by-append, sum_by-cons, flat_map, None, Result, count_by, SourceFault, Part, is_macro, numbers_from, numbers_where, PartKind, Scanned, Wrote, LogItem, fault_count, is_fault, line, source_item, SinkModel, name_items, scan_item, says, DoesInLog, EndsInLog, acts_status, log_ending, web_of}
 use Rattle.cweb_store.specs.Faults as store
 use Rattle.cweb_tools.proofs.DoingFiles.{ends_reported}
 use Rattle.cweb_tools.proofs.Logging.{said_all, said_none}
@@ -19,33 +19,12 @@ all_count f (x ∷ xs) is =
 pub all_counted : (files : List (List ℕ)) (faults : List SourceFault) (made : Scanned)
     → fault_count (fault_items files faults made)
     ≡ length faults + (length made.faults + length (store.faults made.store.occurrences made.store.parts))
-all_counted files faults made =
-    let names = store.faults made.store.occurrences made.store.parts in
-    let first : fault_count (map (source_item files) faults) ≡ length faults =
-    all_count (source_item files) faults (λ x. refl) in
-    let next : fault_count (map (scan_item files) made.faults) ≡ length made.faults =
-    all_count (scan_item files) made.faults (λ x. refl) in
-    let last : fault_count (name_items made.store) ≡ length names =
-    all_count (name_item made.store.occurrences) names (λ x. refl) in
-    sum_by-append (λ (item : LogItem). cond (is_fault item) 1 0)
-    (map (source_item files) faults) (map (scan_item files) made.faults ++ name_items made.store)
-    ∙ (λ i. first i + (sum_by-append (λ (item : LogItem). cond (is_fault item) 1 0)
-    (map (scan_item files) made.faults) (name_items made.store) ∙ (λ j. next j + last j)) i)
+all_counted files faults made = grind (arith, all_count, sum_by-append)
 
 -- The fault count is the number of items.
 pub counted_all : (files : List (List ℕ)) (faults : List SourceFault) (made : Scanned)
     → fault_count (fault_items files faults made) ≡ length (fault_items files faults made)
-counted_all files faults made =
-    let names = store.faults made.store.occurrences made.store.parts in
-    omega (
-      arith,
-      all_counted files faults made,
-      length-append (map (source_item files) faults) (map (scan_item files) made.faults ++ name_items made.store),
-      length-append (map (scan_item files) made.faults) (name_items made.store),
-      length-map faults (source_item files),
-      length-map made.faults (scan_item files),
-      length-map names (name_item made.store.occurrences),
-    )
+counted_all files faults made = grind (arith, all_counted, length-append, length-map)
 
 pub some_from : (n : ℕ) → (n ≡ 0 → ⊥) → 0 < n
 some_from zero never = absurd (never refl)
@@ -77,10 +56,7 @@ pub fault_text : (files : List (List ℕ)) (faults : List SourceFault) (made : S
     → flat_map line (fault_items files faults made) ≡
     flat_map line (map (source_item files) faults)
     ++ (flat_map line (map (scan_item files) made.faults) ++ flat_map line (name_items made.store))
-fault_text files faults made =
-    flat_map-append line (map (source_item files) faults) (map (scan_item files) made.faults ++ name_items made.store)
-    ∙ ap (λ (t : List ℕ). flat_map line (map (source_item files) faults) ++ t)
-    (flat_map-append line (map (scan_item files) made.faults) (name_items made.store))
+fault_text files faults made = grind (arith, flat_map-append)
 
 -- The number of macros.
 numbers_counted : (test : PartKind → Bool) (parts : List Part) (n : ℕ)

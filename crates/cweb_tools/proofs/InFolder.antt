@@ -1,5 +1,5 @@
 -- What a run in a folder leaves there.
-use Rattle.cweb_tools.proofs.Common.{◌≡◌, ◌∙◌, refl, sym, ap, subst, ℕ, Some, List, [], ◌∷◌, map, Option, None, IsSome, World, OptionsModel, TangleCourse, IsTangleCourse, RanFreely, All-nil, All-cons, File, Devices, SinkContents, SinkModel, at, world_of, script, shown_by, TanglePromises, written_files}
+use Rattle.cweb_tools.proofs.Common.{◌≡◌, refl, subst, ℕ, Some, List, [], ◌∷◌, map, Option, None, IsSome, World, OptionsModel, TangleCourse, IsTangleCourse, RanFreely, All-nil, File, Devices, SinkContents, SinkModel, at, world_of, script, shown_by, TanglePromises, written_files, arith}
 use Rattle.cweb_files.specs.Files.{put_file}
 use Rattle.cweb_files.specs.Shelves.{ShelfModel}
 use Rattle.cweb_log.specs.DeviceModels.{contents_of, failed_reads}
@@ -21,8 +21,7 @@ world_of_shelf shelf inputs = world_of (contents_of shelf).texts inputs
 
 all_in : (tree : Tree) (written : List WrittenFile) → AreIn tree (map (file_in tree) written)
 all_in tree [] = All-nil (λ (file : File). contents tree file.name ≡ file.bytes)
-all_in tree (w ∷ written) = All-cons (λ (file : File). contents tree file.name ≡ file.bytes) (file_in tree w)
-    (map (file_in tree) written) refl (all_in tree written)
+all_in tree (w ∷ written) = grind (arith, all_in tree written)
 
 -- The files of the course are in the folder, if nothing failed.
 pub left_in_folder : {F H : Type 0} (system : FileSystem F H) (fs : F) (bins : FolderBins F H system) (world : World)
@@ -69,18 +68,7 @@ pub runs_in : {F H : Type 0} (system : FileSystem F H) (fs : F) (Promises : Worl
     (at (failed_reads (shelf_model system shelf')) out' log') status
     → KeepsInFolder (Promises (world_of_shelf (new_shelf system fs) inputs))
     (at (failed_reads (new_shelf system fs)) out log) out' log' status
-runs_in {H = H} system fs Promises inputs shelf shelf' out out' log log' status same run =
-    subst (λ (m : ShelfModel H).
-    KeepsInFolder (Promises (world_of_shelf m inputs)) (at (failed_reads m) out log) out' log' status) same
-    (record {
-      shelf = failed_reads (shelf_model system shelf');
-      reads = λ some. shelf'.whole (seen system.disk _ _ some) ∙ sym (ap (λ (m : ShelfModel H). m.failed) same);
-      promises = run;
-    })
-  where
-    seen : {A B C : Type 0} (o : Option A) (f : A → B) (g : B → C) → IsSome (option_map g (option_map f o)) → IsSome o
-    seen (Some x) f g some = refl
-    seen None f g some = absurd (cc)
+runs_in {H = H} system fs Promises inputs shelf shelf' out out' log log' status same run = grind arith
 
 -- A run of `ctangle` in a folder, with any bins at first.
 abbrev pub TanglesIn : {F H : Type 0} → FileSystem F H → F → Option (List ℕ) → Option OptionsModel → SinkModel

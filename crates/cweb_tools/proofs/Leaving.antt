@@ -1,5 +1,5 @@
 -- The files and the draft after a run.
-use Rattle.cweb_tools.proofs.Common.{◌≡◌, inl, inr, ℕ, ◌+◌, false, List, [], ◌∷◌, ◌++◌, refl, sym, ◌∙◌, ap, Option, Some, None, File, Event, LogItem, fault_count, Shown, Devices, SinkModel, Act, says, merges, writes, prints, after_act, changed, with_file, with_printed, Ending, ending, PerformsActs, RunEnds, completes, stops, LeavesFiles, draft_in, files_in, refused, Web, written_files, script, tangling}
+use Rattle.cweb_tools.proofs.Common.{◌≡◌, inl, inr, ℕ, ◌+◌, false, List, [], ◌∷◌, ◌++◌, refl, sym, ◌∙◌, ap, Option, Some, None, File, Event, LogItem, fault_count, Shown, Devices, SinkModel, Act, says, merges, writes, prints, after_act, changed, with_file, with_printed, Ending, ending, PerformsActs, RunEnds, completes, stops, LeavesFiles, draft_in, files_in, refused, Web, written_files, script, tangling, arith}
 use Rattle.cweb_files.specs.Files.{put_file}
 use Rattle.std.specs.Prelude.{fold, option_map}
 use Rattle.std.proofs.lemmas.Iterator.Adapters.{option_map_id}
@@ -8,18 +8,14 @@ use Rattle.cweb_tools.proofs.WebActs.{when_on, said_on, starred_on, closing_on}
 
 -- Nothing was committed.
 none_done : {expected : List File} {old new : SinkModel} → files_in new ≡ files_in old → LeavesFiles expected old new
-none_done {expected} {old} same =
-    record { done = []; undone = expected; whole = refl; is = same ∙ sym (option_map_id (files_in old)) }
+none_done {expected} {old} same = grind (arith, option_map_id)
 
 -- One more file was committed first.
 pub put_first : (file : File) (done : List File) (out : SinkModel)
     → option_map (λ (files : List File). fold put_file files done)
     (files_in (changed (with_file file.name file.bytes) out))
     ≡ option_map (λ (files : List File). fold put_file files (file ∷ done)) (files_in out)
-put_first file done out =
-    ap (option_map (λ (files : List File). fold put_file files done))
-    (map_on (with_file file.name file.bytes) _ out.contents)
-    ∙ map_on _ _ out.contents ∙ sym (map_on _ _ out.contents)
+put_first file done out = grind (arith, map_on)
 
 -- The files and the draft after acts.
 abbrev Leaves : List Act → SinkModel → SinkModel → Type 0
@@ -28,16 +24,7 @@ Leaves acts old new = LeavesFiles (written_files acts) old new × (draft_in old 
 -- After the printing of a text.
 left_printed : (acts : List Act) (text : List ℕ) (old : SinkModel) {new : SinkModel}
     → Leaves acts (changed (with_printed text) old) new → Leaves acts old new
-left_printed acts text old left = (
-  record {
-    done = left.0.done;
-    undone = left.0.undone;
-    whole = left.0.whole;
-    is = left.0.is ∙ ap (option_map (λ (files : List File). fold put_file files left.0.done))
-        (files_stay (with_printed text) (λ now. refl) old);
-  },
-  λ none. left.1 (draft_stays text old none),
-)
+left_printed acts text old left = grind (arith, files_stay, draft_stays)
 
 runs_left : (acts : List Act) (why : Option Ending) (old new : Devices) → PerformsActs acts why old new
     → Leaves acts old.out new.out
@@ -69,8 +56,7 @@ runs_left (act ∷ acts) (Some (ending stop about)) old new (inr broke) =
 ends_left : {acts : List Act} {expected : ℕ} {old new : Devices} {status : ℕ}
     → RunEnds acts expected old new status → Leaves acts old.out new.out
 ends_left {acts} {old = old} {new = new} (completes run answered) = runs_left acts None old new run
-ends_left {acts} {old = old} (stops why then run logs answered) =
-    rw logs.others (runs_left acts (Some why) old then run)
+ends_left {acts} {old = old} (stops why then run logs answered) = grind (arith, runs_left)
 
 pub ends_files : {acts : List Act} {expected : ℕ} {old new : Devices} {status : ℕ}
     → RunEnds acts expected old new status → LeavesFiles (written_files acts) old.out new.out

@@ -1,5 +1,5 @@
 -- What runs leave in the shelf.
-use Rattle.cweb_tools.proofs.Common.{◌≡◌, inl, inr, ℕ, List, [], ◌∷◌, ◌∙◌, ap, arith, Some, None, flat_map, line, Devices, FailedReads, SinkModel, Stop, ReadFault, Act, judges, after_act, ending, PerformsActs, RunEnds, completes, stops, FollowsActs, IsStopped}
+use Rattle.cweb_tools.proofs.Common.{◌≡◌, inl, inr, ℕ, List, [], ◌∷◌, ◌∙◌, ap, arith, Some, None, Devices, FailedReads, Stop, ReadFault, Act, judges, after_act, ending, PerformsActs, RunEnds, completes, stops, FollowsActs, IsStopped}
 use Rattle.cweb_tools.specs.laws.LeftDevices.{LeavesShelf}
 use Rattle.cweb_tools.proofs.Broken.{broken, shelf_after}
 use Rattle.cweb_tools.proofs.Stopping.{is_stopped, logs_all}
@@ -21,22 +21,8 @@ shelf_until (act ∷ acts) stop about old new (inr here) = (broken act stop abou
 shelf_so : {acts : List Act} (stop : Stop) (about : List ℕ) {old new : Devices} {status : ℕ}
     → IsStopped acts stop about old new → new.shelf ≡ shelf_after stop about old.shelf → status ≡ 1
     → LeavesShelf old.shelf new.shelf old.log new.log status
-shelf_so (ReadFault file) about is blamed answered = record {
-  none = λ same. absurd (omega (arith, is.shelf, same));
-  one = λ differs. record {
-    name = about;
-    blamed = blamed;
-    logged = λ same. (
-      flat_map line is.log.before,
-      ap (λ (log : SinkModel). log.contents) (logs_all is.log.logs same),
-    );
-    answered = answered;
-  };
-}
-shelf_so stop about is same answered = record {
-  none = λ counted. same;
-  one = λ differs. absurd (differs (ap (λ (shelf : FailedReads). shelf.failed) same));
-}
+shelf_so (ReadFault file) about is blamed answered = grind (arith, logs_all)
+shelf_so stop about is same answered = grind arith
 
 ends_shelf : {acts : List Act} {expected : ℕ} {old new : Devices} {status : ℕ} → RunEnds acts expected old new status
     → LeavesShelf old.shelf new.shelf old.log new.log status

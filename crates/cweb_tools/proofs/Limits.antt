@@ -45,43 +45,18 @@ module _ {stop : Stop} {first : List (List ℕ)} {emitted : List Line} {old new 
 
   -- The events before that line, and the rest.
   pub cut_at_limit : CutAt stop emitted events
-  cut_at_limit = record {
-    earlier = b.yields.events;
-    later = took b.line ∷ b.later;
-    whole = b.yields.whole;
-    emits = b.yields.emitted;
-    next = next_breaks stop (record {
-      line = b.line;
-      more = b.later;
-      next = refl;
-      within = record {
-        short = b.yields.short;
-        few = omega (arith, few, lines_are);
-        small = omega (arith, small, bytes_are);
-      };
-      why = subst (λ (c : TakenCountersModel). RefusesLine stop c b.line) counts b.why;
-    });
-  }
+  cut_at_limit = grind (arith, next_breaks, lines_are, bytes_are, counts)
 
 module _ {stop : Stop} {events earlier later : List Event} (whole : events ≡ earlier ++ later)
     (b : BreaksLimit stop earlier later) where
   lines_whole : taken_lines events ≡ taken_lines earlier ++ b.line ∷ taken_lines b.more
-  lines_whole = ap taken_lines (whole ∙ ap (λ (es : List Event). earlier ++ es) b.next)
-      ∙ taken-append earlier (took b.line ∷ b.more)
+  lines_whole = grind (arith, taken-append)
 
   long : LINE_LENGTH < b.line.length → AreShort (taken_lines events) → ⊥
-  long longer short = omega (
-    arith,
-    longer,
-    short_at (taken_lines earlier) (taken_lines b.more) b.line (subst AreShort lines_whole short),
-  )
+  long longer short = grind (arith, short_at, lines_whole)
 
   lines_all : length (taken_lines events) ≡ length (taken_lines earlier) + (1 + length (taken_lines b.more))
-  lines_all = omega (
-    arith,
-    ap (λ (ls : List SourceLine). length ls) lines_whole,
-    length-append (taken_lines earlier) (b.line ∷ taken_lines b.more),
-  )
+  lines_all = grind (arith, lines_whole, length-append)
 
   bytes_all : size_of_lines (taken_lines events)
       ≡ size_of_lines (taken_lines earlier) + (b.line.size + size_of_lines (taken_lines b.more))
@@ -133,8 +108,7 @@ module _ (stop other : Stop) {events earlier later earlier' later' : List Event}
     (a : BreaksLimit stop earlier later) (whole' : events ≡ earlier' ++ later')
     (b : BreaksLimit other earlier' later') where
   same_events : earlier ++ took a.line ∷ a.more ≡ earlier' ++ took b.line ∷ b.more
-  same_events = ap (λ (es : List Event). earlier ++ es) (sym a.next) ∙ sym whole ∙ whole'
-      ∙ ap (λ (es : List Event). earlier' ++ es) b.next
+  same_events = grind arith
 
   pub limit_only : stop ≡ other
   limit_only = by (first_only earlier earlier' a.line b.line a.more b.more same_events)

@@ -1,5 +1,5 @@
 -- Logging of items is the doing of acts.
-use Rattle.cweb_tools.proofs.Common.{◌≡◌, ◌<◌, ◌+◌, ◌⊎◌, inl, inr, ℕ, zero, suc, List, [], ◌∷◌, ◌++◌, map, refl, sym, ◌∙◌, ap, append-nil, length, arith, flat_map, ◌==◌, Bool, true, false, None, Some, Result, Ok, Err, LogFault, Wrote, FailsWithin, Logs, logged, log_failed, appended, written, LogItem, line, starred, SinkModel, FailedReads, ending, PerformsActs, says, at, DoesInLog, log_ending, starred_acts, when}
+use Rattle.cweb_tools.proofs.Common.{◌≡◌, ◌<◌, ◌⊎◌, inl, inr, ℕ, zero, suc, List, [], ◌∷◌, ◌++◌, map, refl, sym, ◌∙◌, ap, append-nil, length, arith, flat_map, ◌==◌, Bool, true, false, None, Some, Result, Ok, Err, LogFault, Wrote, FailsWithin, Logs, logged, log_failed, written, LogItem, line, starred, SinkModel, FailedReads, ending, PerformsActs, says, at, DoesInLog, log_ending, starred_acts, when}
 use Rattle.cweb_files.proofs.Appending.{appended_on, written_none, written_then}
 use Rattle.cweb_tools.proofs.Doing.{does_none}
 
@@ -11,12 +11,7 @@ Cuts a b prefix rest =
 cuts : (a b prefix rest : List ℕ) → a ++ b ≡ prefix ++ rest → Cuts a b prefix rest
 cuts [] b prefix rest is = inr (prefix, refl, is)
 cuts (x ∷ a) b [] rest is = inl (x ∷ a, refl)
-cuts (x ∷ a) b (y ∷ prefix) rest is =
-    let same : x ≡ y = cc in
-    elim (cuts a b prefix rest (cc)) as (λ c. Cuts (x ∷ a) b (y ∷ prefix) rest) [
-      | inl cut ↦ inl (cut.0, (λ i. same i ∷ cut.1 i))
-      | inr cut ↦ inr (cut.0, (λ i. sym same i ∷ cut.1 i), cut.2)
-    ]
+cuts (x ∷ a) b (y ∷ prefix) rest is = grind (arith, cuts a b prefix rest (cc))
 
 -- The log failed within one of the lines.
 lines_stop : (item : LogItem) (items : List LogItem) (shelf : FailedReads) (out : SinkModel) (old new : SinkModel)
@@ -36,11 +31,7 @@ lines_stop item (next ∷ items) shelf out old new fails =
           prefix = cut.0;
           rest = fails.rest;
           whole = cut.2;
-          is = fails.is ∙ (λ i. record { failed = old.failed + 1; contents = appended (cut.1 i) old.contents })
-              ∙ (λ i. record {
-                failed = old.failed + 1;
-                contents = sym (appended_on (line item) cut.0 old.contents) i;
-              });
+          is = grind (arith, appended_on);
         }),
       )
     ]
@@ -49,11 +40,8 @@ lines_stop item (next ∷ items) shelf out old new fails =
 lines_said : (items : List LogItem) (shelf : FailedReads) (out : SinkModel) (old new : SinkModel)
     → new ≡ written (flat_map line items) old → PerformsActs (map says items) None (at shelf out old) (at shelf out new)
 lines_said [] shelf out old new is = ap (at shelf out) (is ∙ sym (written_none old))
-lines_said (item ∷ items) shelf out old new is = inl (
-  tt,
-  lines_said items shelf out (written (line item) old) new
-      (is ∙ sym (written_then (line item) (flat_map line items) old refl refl)),
-)
+lines_said (item ∷ items) shelf out old new is =
+    grind (arith, written_then, lines_said items shelf out (written (line item) old) new)
 
 -- Writing the lines of a nonempty list of items is logging them.
 pub said_all : {A E : Type 0} (r : Result A E) (item : LogItem) (items : List LogItem) {old new : SinkModel}

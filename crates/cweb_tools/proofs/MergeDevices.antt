@@ -1,6 +1,5 @@
 -- The output of `wmerge`, as far as it is promised: its contents are known if those of the files are, too.
-use Rattle.cweb_tools.proofs.Common.{◌≡◌, ◌+◌, ◌++◌, ◌∷◌, [], ℕ, List, refl, ◌∙◌, add-zero, Option, Some, None, IsSome, write_failures_of, Stop, ReadFault, WriteFault, FailedReads, SinkContents, SinkModel, appended}
-use Rattle.std.specs.Prelude.{option_map}
+use Rattle.cweb_tools.proofs.Common.{◌≡◌, ◌+◌, ℕ, List, refl, ◌∙◌, add-zero, Option, Some, None, IsSome, write_failures_of, Stop, ReadFault, WriteFault, FailedReads, SinkContents, SinkModel, appended, arith}
 use Rattle.cweb_tools.proofs.Broken.{shelf_after}
 use Rattle.std.specs.Option.{is_some, option_and}
 use Rattle.cweb_tools.proofs.MergeStops.{out_after}
@@ -11,12 +10,7 @@ out_of shelf out = record out { contents = option_and shelf.blamed out.contents 
 -- What is known stays known.
 pub stays_known : (stop : Stop) (about : List ℕ) (shelf : FailedReads)
     → is_some (shelf_after stop about shelf).blamed ≡ is_some shelf.blamed
-stays_known (ReadFault file) about shelf = by shelf.blamed
-  where
-    by : (blamed : Option (List (List ℕ)))
-        → is_some (option_map (λ (names : List (List ℕ)). names ++ about ∷ []) blamed) ≡ is_some blamed
-    by None = refl
-    by (Some names) = refl
+stays_known (ReadFault file) about shelf = grind arith
 stays_known stop about shelf = refl
 
 -- The output has this text more, if the files are known.

@@ -1,6 +1,5 @@
 -- The ends of a run of `wmerge` keep its promises.
-use Rattle.cweb_tools.proofs.Common.{◌≤◌, ◌≡◌, inl, inr, ℕ, ◌+◌, List, [], ◌∷◌, ◌++◌, refl, sym, ◌∙◌, ap, append-nil, append_assoc, arith, subst, Option, Some, IsSome, World, read_failures_of, bins_blame, Event, emitted_lines, written_lines, Stop, ReadFault, OutNotOpened, WriteFault, WebNames, Course, IsMergeCourse, merge_acts, merge_devices, PrintsActs, ActsKeepLimits, Act, reads, writes, merges, prints, after_act, changed, with_printed, ending, Breaks, Devices, SinkModel, PerformsActs, RunEnds, completes, stops, printed_bytes, written_files, RisesOnce}
-use Rattle.cweb_files.specs.Sinks.{FailsWithin}
+use Rattle.cweb_tools.proofs.Common.{◌≤◌, ◌≡◌, inl, inr, ℕ, ◌+◌, List, [], ◌∷◌, ◌++◌, sym, ◌∙◌, append-nil, append_assoc, arith, subst, Option, Some, IsSome, World, read_failures_of, bins_blame, emitted_lines, written_lines, Stop, ReadFault, OutNotOpened, WriteFault, WebNames, Course, IsMergeCourse, merge_acts, merge_devices, PrintsActs, ActsKeepLimits, Act, writes, merges, prints, after_act, changed, with_printed, ending, Breaks, Devices, SinkModel, PerformsActs, RunEnds, completes, stops, printed_bytes, written_files, RisesOnce}
 use Rattle.cweb_files.specs.surface.Writes.{WritesPrefix}
 use Rattle.cweb_lines.proofs.EmittedLinesAddUp.{emitted-append}
 use Rattle.cweb_lines.proofs.WrittenLinesAddUp.{text_of-append}
@@ -20,62 +19,21 @@ pub one_course : (world : World) (args : Option WebNames) (one other : Course) �
     → IsMergeCourse world args other → one ≡ other
 one_course world args one other is too = merge_only world args one is ∙ sym (merge_only world args other too)
 
-nothing : {old new : SinkModel} (text : List ℕ) → new ≡ old → WritesPrefix text old new
-nothing {old} text same = record {
-  prefix = [];
-  rest = text;
-  whole = refl;
-  is = ap (λ (out : SinkModel). out.contents) (same ∙ written_none old);
-}
-
--- More would have been printed after a prefix.
-more_after : {text : List ℕ} (more : List ℕ) {old new : SinkModel} → WritesPrefix text old new
-    → WritesPrefix (text ++ more) old new
-more_after more wrote = record {
-  prefix = wrote.prefix;
-  rest = wrote.rest ++ more;
-  whole = ap (λ (t : List ℕ). t ++ more) wrote.whole ∙ append_assoc wrote.prefix wrote.rest more;
-  is = wrote.is;
-}
-
 -- This was printed before a prefix.
 more_before : (text : List ℕ) {more : List ℕ} (old : SinkModel) {new : SinkModel}
     → WritesPrefix more (changed (with_printed text) old) new → WritesPrefix (text ++ more) old new
-more_before text old wrote = record {
-  prefix = text ++ wrote.prefix;
-  rest = wrote.rest;
-  whole = ap (λ (t : List ℕ). text ++ t) wrote.whole ∙ sym (append_assoc text wrote.prefix wrote.rest);
-  is = wrote.is ∙ ap (λ (out : SinkModel). out.contents) (written_on text wrote.prefix old);
-}
-
-printing_failed : {text : List ℕ} {old new : SinkModel} → FailsWithin text old new → WritesPrefix text old new
-printing_failed fails = record {
-  prefix = fails.prefix;
-  rest = fails.rest;
-  whole = fails.whole;
-  is = ap (λ (out : SinkModel). out.contents) fails.is;
-}
+more_before text old wrote = grind (arith, append_assoc, written_on)
 
 printed_at : (act : Act) (acts : List Act) (stop : Stop) (about : List ℕ) (old new : Devices)
     → written_files (act ∷ acts) ≡ [] → Breaks act (ending stop about) old new
     → WritesPrefix (printed_bytes (act ∷ acts)) old.out new.out
 printed_at (writes name text) acts stop about old new none broke = absurd (cc)
-printed_at (merges names events) acts WriteFault about old new none broke =
-    more_after (printed_bytes acts) (printing_failed broke.out)
-printed_at (merges names events) acts stop about old new none broke = more_after (printed_bytes acts) (record {
-  prefix = written_lines (emitted_lines broke.earlier);
-  rest = written_lines (emitted_lines broke.later);
-  whole = ap (λ (es : List Event). written_lines (emitted_lines es)) broke.whole
-      ∙ ap written_lines (emitted-append broke.earlier broke.later)
-      ∙ text_of-append (emitted_lines broke.earlier) (emitted_lines broke.later);
-  is = ap (λ (out : SinkModel). out.contents) ((reading_broken (reads names events) names broke.earlier broke.later
-      stop about (after_act (merges names broke.earlier) old) new broke.fails).out (λ of_output. of_output));
-})
-printed_at (prints text) acts WriteFault about old new none broke =
-    more_after (printed_bytes acts) (printing_failed broke.out)
+printed_at (merges names events) acts WriteFault about old new none broke = grind (arith, append_assoc)
+printed_at (merges names events) acts stop about old new none broke =
+    grind (arith, append_assoc, emitted-append, text_of-append, reading_broken)
+printed_at (prints text) acts WriteFault about old new none broke = grind (arith, append_assoc)
 printed_at (prints text) acts stop about old new none broke = absurd broke
-printed_at act acts stop about old new none broke =
-    nothing (printed_bytes (act ∷ acts)) ((broken act stop about old new broke).out (λ of_output. of_output))
+printed_at act acts stop about old new none broke = grind (arith, written_none, broken)
 
 printed_until : (acts : List Act) (stop : Stop) (about : List ℕ) (old new : Devices) → written_files acts ≡ []
     → PerformsActs acts (Some (ending stop about)) old new → WritesPrefix (printed_bytes acts) old.out new.out
@@ -94,23 +52,8 @@ not_zero status one none = absurd (omega (arith, one, none))
 
 printed_by : {acts : List Act} {expected : ℕ} {old new : Devices} {status : ℕ} → written_files acts ≡ []
     → RunEnds acts expected old new status → PrintsActs acts old.out new.out status
-printed_by {acts} {old = old} {new = new} none (completes run answered) =
-    let all = ap (λ (out : SinkModel). out.contents) (printed_all acts old new none run) in
-    record {
-      some = record { prefix = printed_bytes acts; rest = []; whole = sym (append-nil _); is = all };
-      all = λ zero. all;
-    }
-printed_by {acts} {old = old} {status = status} none (stops (ending stop about) then run logs answered) =
-    let part = printed_until acts stop about old then none run in
-    record {
-      some = record {
-        prefix = part.prefix;
-        rest = part.rest;
-        whole = part.whole;
-        is = ap (λ (d : Devices). d.out.contents) logs.others ∙ part.is;
-      };
-      all = not_zero status answered;
-    }
+printed_by {acts} {old = old} {new = new} none (completes run answered) = grind (arith, printed_all, append-nil)
+printed_by none (stops (ending stop about) then run logs answered) = grind (arith, printed_until, not_zero)
 
 one_blame : (stop : Stop) → read_failures_of stop + bins_blame stop ≤ 1
 one_blame (ReadFault file) = omega arith
@@ -122,8 +65,7 @@ one_blame _ = omega arith
 one_fails : {acts : List Act} {expected : ℕ} {old new : Devices} {status : ℕ}
     → RunEnds acts expected old new status
     → new.shelf.failed + new.out.failed ≤ old.shelf.failed + old.out.failed + 1
-one_fails {acts} {old = old} {new = new} (completes run answered) =
-    let same = counts_all acts old new run in omega (arith, same.0, same.1)
+one_fails {acts} {old = old} {new = new} (completes run answered) = grind (arith, counts_all)
 one_fails {acts} {old = old} {new = new} (stops (ending stop about) then run logs answered) =
     let is = is_stopped acts then run logs in omega (arith, is.shelf, is.bins, one_blame stop)
 
@@ -133,8 +75,7 @@ at_most_once old new (inr more) = omega (arith, more)
 
 pub leave_merge : EveryMergeLeavesOutput
 leave_merge world args before after status run course course_is =
-    let same : IsSome before.shelf.blamed → run.course ≡ course = λ some.
-    merge_only world args run.course (run.is some) ∙ sym (merge_only world args course course_is) in
+    let same : IsSome before.shelf.blamed → run.course ≡ course = grind (arith, merge_only) in
     record {
       prints = λ some. subst (λ (c : Course).
           PrintsActs (merge_acts c) (merge_devices before).out (merge_devices after).out status) (same some)

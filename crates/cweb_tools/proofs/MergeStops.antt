@@ -1,5 +1,5 @@
 -- A merge that stops breaks the act of merging.
-use Rattle.cweb_tools.proofs.Common.{◌∙◌, ap, ◌∷◌, ◌≤◌, Line, length, files_named, begun_with, LINES, BYTES, after_act, ◌≡◌, ℕ, List, [], ◌++◌, refl, subst, Event, SoFar, StopsReading, emitted_lines, written_lines, StopsWriting, WritingStops, WritesPrefix, Stop, ReadFault, LineTooLong, TooMuchText, Memory, WriteFault, LogFault, Logs, stop_line, subject, SinkModel, Devices, merges, Breaks, FailsReading, ending, LogsEnding, appended, changed, failing, with_printed}
+use Rattle.cweb_tools.proofs.Common.{◌∙◌, ap, ◌∷◌, ◌≤◌, Line, length, files_named, begun_with, LINES, BYTES, after_act, ◌≡◌, ℕ, List, [], ◌++◌, refl, subst, Event, SoFar, StopsReading, emitted_lines, written_lines, StopsWriting, WritingStops, WritesPrefix, Stop, ReadFault, LineTooLong, TooMuchText, Memory, WriteFault, LogFault, Logs, stop_line, subject, SinkModel, Devices, merges, Breaks, FailsReading, ending, LogsEnding, appended, changed, failing, with_printed, arith}
 use Rattle.cweb_lines.specs.Events.{took, emitted, fault, opening}
 use Rattle.cweb_tools.specs.Acts.{BreaksReading}
 use Rattle.cweb_tools.proofs.Broken.{shelf_after}
@@ -61,10 +61,7 @@ left_so : (opened : List (List ℕ)) (now : Devices) {shown lines : List Line} �
     (record now { out = changed (with_printed (written_lines shown)) now.out })
     ≡ left_after stop opened (written_lines lines) now
 left_so opened now are WriteFault kind = absurd kind
-left_so opened now are stop kind = λ i. record now {
-  shelf = shelf_after stop (subject opened stop) now.shelf;
-  out = changed (with_printed (written_lines (are i))) now.out;
-}
+left_so opened now are stop kind = grind arith
 
 -- What was printed before a stop.
 pub record PrintsUntil (stop : Stop) (files opened : List (List ℕ)) (events : List Event)
@@ -100,8 +97,7 @@ module _ (files opened rest : List (List ℕ)) (names : files ≡ opened ++ rest
   pub write_broke : (prefix more : List ℕ) → written_lines (emitted_lines events) ≡ prefix ++ more
       → (now : Devices) → Breaks (merges files events) (ending WriteFault (subject opened WriteFault)) now
       (left_after WriteFault opened prefix now)
-  write_broke prefix more whole now =
-      record { about_is = refl; out = record { prefix = prefix; rest = more; whole = whole; is = refl }; others = refl }
+  write_broke prefix more whole now = grind arith
 
   -- An observable shelf: all lines before the stop were printed.
   pub prints_so : (stop : Stop) {first : List (List ℕ)} {old : SoFar} (new : SoFar) (Wrote : List ℕ → Type 0)

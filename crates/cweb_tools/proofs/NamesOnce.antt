@@ -1,7 +1,6 @@
 -- Each name once, by a set of the names so far.
 use Rattle.std.proofs.Common.{◌≡◌, ◌<◌, ◌+◌, ℕ, List, [], ◌∷◌, ◌++◌, length, get_or, take, sym, ◌∙◌, ap, cond, arith}
 use Rattle.std.proofs.Common.{Bool, true, false, not, nat_cmp, BTreeSet, refl, ◌&&◌}
-use Rattle.std.proofs.lemmas.Bool.{OnFalse_at}
 use Rattle.std.proofs.lemmas.Cmp.{nat_list_eq_equiv}
 use Rattle.std.proofs.lemmas.List.{map-append, take_more}
 use Rattle.std.proofs.lemmas.List.Folds.{list_any-append}
@@ -11,12 +10,10 @@ use Rattle.std.proofs.lemmas.Slice.Eq.{bytes_eq-Decides}
 use Rattle.std.specs.Bool.{OnFalse}
 use Rattle.std.specs.Borrow.{Bor}
 use Rattle.std.specs.BTreeSet.{IsUnchanged, Updates, contains}
-use Rattle.std.specs.Cmp.{nat_cmp_is, tied_then}
 use Rattle.std.specs.Cmp.Lexicographic.{slice_cmp}
 use Rattle.std.specs.List.{list_any}
 use Rattle.std.specs.Ordering.{is_eq, ordering_then}
 use Rattle.std.specs.declared.cmp.Ordering.{Ordering}
-use Rattle.std.specs.declared.cmp.Ordering.TheVariants.{Equal}
 use Rattle.std.specs.Prelude.{slice_index_or}
 use Rattle.std.specs.Str.{bytes_eq}
 use Rattle.cweb_texts.specs.declared.words.key.Key.{Key}
@@ -54,11 +51,6 @@ pub name_added : (names : List (List ℕ)) (at : ℕ) → at < length names
 name_added names at within = sym (ap each_once (take_more names at [] within)
     ∙ fold-append add_once [] (take at names) (get_or names at [] ∷ []))
 
-equal_keys : (a b : Key) → a ≡ b → is_eq (compare_keys a b) ≡ true
-equal_keys a b same = ap is_eq (sym (λ i. ordering_then
-    (nat_cmp_is a.first b.first Equal (ap (λ (k : Key). k.first) same) i)
-    (nat_cmp_is a.last b.last Equal (ap (λ (k : Key). k.last) same) i)))
-
 same_test : (keys names : Bool) → (names ≡ true → keys ≡ true) → (keys && names) ≡ names
 same_test true names on = refl
 same_test false true on = on refl
@@ -66,12 +58,7 @@ same_test false false on = refl
 
 -- The order compares names: equal names have equal keys.
 equal_names : (a b : Bor (List ℕ)) → is_eq (compare (keyed a) (keyed b)) ≡ bytes_eq a.now b.now
-equal_names a b =
-    let keys = compare_keys (key_of a.now) (key_of b.now) in
-    sym (tied_then keys (slice_cmp nat_cmp a.now b.now))
-    ∙ ap (λ (names : Bool). is_eq keys && names) (is_eq-slice_cmp a.now b.now)
-    ∙ same_test (is_eq keys) (bytes_eq a.now b.now)
-    (λ same. equal_keys _ _ (ap key_of ((bytes_eq-Decides a.now b.now).0 same)))
+equal_names a b = grind (arith, is_eq-slice_cmp, same_test, bytes_eq-Decides)
 
 among_more : (names : List (List ℕ)) (name q : List ℕ) → cond (bytes_eq name q) true (list_any (bytes_eq q) names)
     ≡ list_any (bytes_eq q) (names ++ name ∷ [])
@@ -86,19 +73,8 @@ module _ (set new : BTreeSet Entry) (list now : List (Bor (List ℕ))) (key : Ke
   -- A name that the set lacks is pushed.
   pub pushes_new : added ≡ true → Updates compare set new (entry key name) true → now ≡ list ++ name ∷ []
       → ContainNames new now all
-  pushes_new is updates pushed = record {
-    set = λ q.
-        let with : contains compare new (keyed q)
-        ≡ cond (bytes_eq name.now q.now) true (list_any (bytes_eq q.now) names) =
-        updates.0 (keyed q) ∙ (λ i. cond (is_eq (compare (entry (is_key i) name) (keyed q))) true (before.set q i))
-        ∙ ap (λ (b : Bool). cond b true (list_any (bytes_eq q.now) names)) (equal_names name q) in
-        grind (arith, is_added, with, among_more);
-    list = grind (arith, is_added, before.list, map-append);
-  }
+  pushes_new is updates pushed = grind (arith, equal_names, is_added, among_more, map-append)
 
   -- A name that the set has is skipped.
   pub skips_known : added ≡ false → OnFalse added (IsUnchanged set new) → now ≡ list → ContainNames new now all
-  skips_known is unchanged same = let keys = OnFalse_at is unchanged in record {
-    set = λ q. grind (arith, is_added, before.set q, keys);
-    list = grind (arith, is_added, before.list);
-  }
+  skips_known is unchanged same = grind (arith, is_added)

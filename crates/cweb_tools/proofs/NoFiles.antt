@@ -1,5 +1,5 @@
 -- `wdep` and `wmerge` write no file. The bytes that they print.
-use Rattle.cweb_tools.proofs.Common.{◌≡◌, ℕ, List, [], ◌∷◌, ◌++◌, map, refl, ◌∙◌, append-nil, true, false, Event, LogItem, Act, says, written_files, printed_bytes, source_item, Planning, planned, refused, Web, dependencies, depend_plan_acts, openings, reported_faults}
+use Rattle.cweb_tools.proofs.Common.{◌≡◌, ℕ, List, [], ◌∷◌, ◌++◌, map, refl, ◌∙◌, append-nil, true, false, Event, LogItem, Act, says, written_files, printed_bytes, Planning, planned, refused, Web, dependencies, depend_plan_acts, arith}
 use Rattle.cweb_tools.specs.Course as course
 use Rattle.cweb_tools.specs.Course.{Course}
 use Rattle.cweb_tools.specs.declared.rule_targets.Targets.{Targets}
@@ -26,6 +26,5 @@ only_said [] = refl
 only_said (item ∷ items) = only_said items
 
 pub merge-writes-none : (way : Course) → written_files (merge_acts way) ≡ []
-merge-writes-none (course.merging first events) =
-    only_said (map (source_item (first ++ openings events)) (reported_faults events))
+merge-writes-none (course.merging first events) = grind (arith, only_said)
 merge-writes-none _ = refl

@@ -1,5 +1,5 @@
 -- The acts of consecutive outputs.
-use Rattle.cweb_tools.proofs.Common.{◌≡◌, ◌<◌, ◌≤◌, ◌+◌, ℕ, suc, Bool, List, [], ◌∷◌, ◌++◌, length, map, take, drop, get_or, sym, ◌∙◌, ap, append-nil, drop-cons, flat_map-append, take-append-drop, take_more, take_all, map-append, File, Act, output_acts, outputs_acts}
+use Rattle.cweb_tools.proofs.Common.{◌≡◌, ◌<◌, ◌≤◌, ◌+◌, ℕ, suc, Bool, List, [], ◌∷◌, ◌++◌, length, map, take, drop, get_or, sym, ◌∙◌, ap, append-nil, drop-cons, flat_map-append, take-append-drop, take_more, take_all, map-append, File, Act, output_acts, outputs_acts, arith}
 
 -- Outputs with the file of each.
 module _ {X : Type 0} (file : X → File) (progress : Bool) where
@@ -7,8 +7,7 @@ module _ {X : Type 0} (file : X → File) (progress : Bool) where
   acts xs = outputs_acts progress (map file xs)
 
   joined : (xs ys : List X) → acts (xs ++ ys) ≡ acts xs ++ acts ys
-  joined xs ys = ap (outputs_acts progress) (map-append file xs ys)
-      ∙ flat_map-append (output_acts progress) (map file xs) (map file ys)
+  joined xs ys = grind (arith, map-append, flat_map-append)
 
   -- The acts of the outputs before one, of that one, and of those after it.
   pub acts_at : (xs : List X) (i : ℕ) (d : X) → i < length xs

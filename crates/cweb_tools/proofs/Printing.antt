@@ -1,6 +1,5 @@
 -- A text that is printed to a stream, and the targets of a rule.
-use Rattle.cweb_tools.proofs.Common.{◌≡◌, inl, inr, ℕ, List, [], ◌∷◌, refl, ◌∙◌, ap, codes, map, Some, None, File, Stored, Output, output_file, WriteFault, FailsWithin, SinkModel, at, written, ending, prints, DoesInOut}
-use Rattle.std.specs.Prelude.{take}
+use Rattle.cweb_tools.proofs.Common.{◌≡◌, inl, ℕ, List, [], ◌∷◌, refl, ap, codes, map, Some, None, File, Stored, Output, output_file, WriteFault, FailsWithin, SinkModel, at, written, ending, prints, DoesInOut, arith}
 use Rattle.std.proofs.lemmas.List.{take-map}
 use Rattle.cweb_tools.specs.Depend.{among_outputs}
 use Rattle.cweb_tools.specs.declared.rule_targets.Targets.{Targets}
@@ -14,22 +13,17 @@ printed_whole text old is = λ shelf log. record { runs = inl (tt, ap (λ out. a
 -- A prefix was written, and the output failed.
 pub printed_prefix : {text : List ℕ} {old new : SinkModel} → FailsWithin text old new
     → DoesInOut (prints text ∷ []) (Some (ending WriteFault (codes "standard output"))) old new
-printed_prefix fails = λ shelf log. record {
-  runs = inr (record { about_is = refl; out = fails; others = refl });
-}
+printed_prefix fails = grind arith
 
 -- The targets are the names of the outputs.
 target_names : (web : Stored) (files : List (List ℕ)) (outputs : List Output)
     → map (λ (file : File). file.name) (map (output_file web files) outputs)
     ≡ map (λ (output : Output). output.name) outputs
 target_names web files [] = refl
-target_names web files (output ∷ outputs) =
-    ap (λ (names : List (List ℕ)). output.name ∷ names) (target_names web files outputs)
+target_names web files (output ∷ outputs) = grind (arith, target_names web files outputs)
 
 pub target_names_among : (web : Stored) (files : List (List ℕ)) (targets : Targets) (outputs : List Output)
     → map (λ (file : File). file.name) (among_outputs targets (map (output_file web files) outputs))
     ≡ map (λ (output : Output). output.name) (among_outputs targets outputs)
 target_names_among web files All outputs = target_names web files outputs
-target_names_among web files Main outputs =
-    ap (map (λ (file : File). file.name)) (take-map (output_file web files) 1 outputs)
-    ∙ target_names web files (take 1 outputs)
+target_names_among web files Main outputs = grind (arith, take-map, target_names)

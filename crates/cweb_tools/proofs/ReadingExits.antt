@@ -1,5 +1,5 @@
 -- The exits of `ctangle` after its merge began are ends of a run.
-use Rattle.cweb_tools.proofs.Common.{◌≤◌, ◌≡◌, inl, inr, ℕ, List, [], ◌∷◌, ◌++◌, length, refl, sym, ◌∙◌, ap, IsSome, Option, Some, None, names_found, World, Found, Event, SoFar, StopsReading, files_named, emitted_lines, reported_faults, openings, taken_lines, IsWithinLimits, BeginsMerge, SourceFault, LINES, BYTES, Stop, Scanned, scanned, ScanEndsEarly, Scans, stop_line, subject, OptionsModel, Logs, SinkModel, Devices, FailedReads, Act, acts_status, Breaks, ending, opens, reads, Course, found_course, merging, at, RunEnds, Does, TangleCourse, tangling, LaterActs, opening_acts, EndsAs, tangled, web_of}
+use Rattle.cweb_tools.proofs.Common.{◌≤◌, ◌≡◌, inl, inr, ℕ, List, [], ◌∷◌, ◌++◌, length, refl, ◌∙◌, IsSome, Option, Some, None, names_found, World, Found, Event, SoFar, StopsReading, files_named, emitted_lines, reported_faults, openings, taken_lines, IsWithinLimits, BeginsMerge, SourceFault, LINES, BYTES, Stop, Scanned, scanned, ScanEndsEarly, Scans, stop_line, subject, OptionsModel, Logs, SinkModel, Devices, FailedReads, Act, acts_status, Breaks, ending, opens, reads, Course, found_course, merging, at, RunEnds, Does, TangleCourse, tangling, LaterActs, opening_acts, EndsAs, tangled, web_of, arith}
 use Rattle.cweb_tools.proofs.Carried.{either}
 use Rattle.cweb_tools.proofs.Doing.{ends_halted, ends_on}
 use Rattle.cweb_tools.proofs.Exits.{begins_course, faults_reported, limits_kept, names_reported, opened_by}
@@ -67,8 +67,7 @@ module _ (later : LaterActs) (args : OptionsModel) (world : World) (found : Opti
   -- Everything was read.
   reads_so : (files : List (List ℕ)) (events : List Event) → IsWithinLimits (taken_lines events) → shelf' ≡ shelf
       → Does (opens ∷ reads files events ∷ []) None (at shelf out l) (at shelf' out l)
-  reads_so files events within same =
-      record { runs = inl (tt, inl (within, ap (λ (shelf : FailedReads). at shelf out l) same)) }
+  reads_so files events within same = grind arith
 
   -- Everything was read, and the run continued with the web.
   pub read_whole : (files : List (List ℕ)) (faults : List SourceFault) (made : Scanned) (after : Devices) → files
@@ -95,8 +94,7 @@ module _ (later : LaterActs) (args : OptionsModel) (world : World) (found : Opti
             let of_text : made ≡ scanned (emitted_lines all) = (scans observed).made in record {
               course = tangling files all web;
               can = record { faults = faults; made = made; is = refl };
-              is = λ tell. (λ i. tangling (of_files i) all (web_of (of_files i) (of_faults i) (of_text i) main))
-                  ∙ ap (λ (c : Course). tangled main c) (sym (begun observed));
+              is = grind (arith, begun);
               ends = goes_on all (limits_kept _ all old new (begins observed).so_far_is yields few small);
             }
         | inr silent ↦ record {

@@ -1,5 +1,5 @@
 -- The devices after a stop of reading, and its cause.
-use Rattle.cweb_tools.proofs.Common.{◌≤◌, ◌≡◌, ◌+◌, inr, ℕ, List, [], ◌∷◌, ◌++◌, length, length-append, refl, sym, ◌∙◌, ap, append-nil, arith, get_or-append, FileId, SourceLine, Event, took, SoFar, BreaksLimit, counts_of, begun_with, StopsFor, StopsReading, files_named, openings, IsWithinLimits, LINE_LENGTH, LINES, BYTES, Stop, ReadFault, LineTooLong, TooMuchText, Memory, LogFault, StopsAfter, file_name_at, stop_line, subject, Logs, SinkModel, Devices, Breaks, FailsReading, Line, ending, IsOfFile, reads, LogsEnding}
+use Rattle.cweb_tools.proofs.Common.{◌≤◌, ◌≡◌, ◌+◌, ℕ, List, [], ◌∷◌, ◌++◌, length, length-append, refl, append-nil, arith, get_or-append, FileId, SourceLine, Event, took, SoFar, BreaksLimit, counts_of, begun_with, StopsFor, StopsReading, files_named, openings, IsWithinLimits, LINE_LENGTH, LINES, BYTES, Stop, ReadFault, LineTooLong, TooMuchText, Memory, LogFault, StopsAfter, file_name_at, stop_line, subject, Logs, SinkModel, Devices, Breaks, FailsReading, Line, ending, IsOfFile, reads, LogsEnding}
 use Rattle.cweb_input.specs.OpenSources.{RefusesLine}
 use Rattle.cweb_tools.proofs.Limits.{CutAt, NextBreaks, cut_at_limit}
 use Rattle.cweb_tools.proofs.Broken.{shelf_after}
@@ -7,11 +7,7 @@ use Rattle.cweb_tools.proofs.Broken.{shelf_after}
 -- The file of a stop is among those that the whole merge opens.
 of_file : (files opened rest : List (List ℕ)) (file : ℕ) → files ≡ opened ++ rest
     → file + 1 ≤ length opened → IsOfFile files file (file_name_at opened file)
-of_file files opened rest file are known = (
-  rw are (omega (arith, known, length-append opened rest)),
-  sym (get_or-append opened rest [] file (omega (arith, known)))
-      ∙ ap (λ (ns : List (List ℕ)). file_name_at ns file) (sym are),
-)
+of_file files opened rest file are known = grind (arith, length-append, get_or-append)
 
 -- The devices after a stop of reading with this name.
 abbrev pub left_by : Stop → List ℕ → Devices → Devices
@@ -36,12 +32,10 @@ fails_so stop files opened rest earlier later now kind names known next = absurd
 cut_so : (stop : Stop) {first : List (List ℕ)} {old : SoFar} (new : SoFar) (all : List Event) → old ≡ begun_with first
     → new.count.lines ≤ LINES → new.count.bytes ≤ BYTES → StopsReading stop
     → StopsFor (StopsAfter stop old new all) stop → (lines : List Line) × CutAt stop lines all
-cut_so (ReadFault file) new all began few small kind why =
-    ([], record { earlier = []; later = all; whole = refl; emits = refl; next = tt })
+cut_so (ReadFault file) new all began few small kind why = grind arith
 cut_so (LineTooLong file) new all began few small kind why = (why.lines, cut_at_limit began few small why.stops)
 cut_so TooMuchText new all began few small kind why = (why.lines, cut_at_limit began few small why.stops)
-cut_so Memory new all began few small kind why =
-    ([], record { earlier = []; later = all; whole = refl; emits = refl; next = tt })
+cut_so Memory new all began few small kind why = grind arith
 cut_so stop new all began few small kind why = absurd kind
 
 -- Why reading ended early.
@@ -51,13 +45,7 @@ pub reads_broke : (stop : Stop) (first opened rest : List (List ℕ)) (old new :
     → files_named stop ≤ length opened → Breaks
     (reads (first ++ openings all) all) (ending stop (subject opened stop)) now (left_by stop (subject opened stop) now)
 reads_broke stop first opened rest old new all now began few small kind why names known =
-    let cut = (cut_so stop new all began few small kind why).1 in
-    record {
-      earlier = cut.earlier;
-      later = cut.later;
-      whole = cut.whole;
-      fails = fails_so stop _ opened rest cut.earlier cut.later now kind names known cut.next;
-    }
+    grind (arith, cut_so, fails_so)
 
 -- A line that is too long, and a line beyond the total limit.
 abbrev line_of : FileId → ℕ → ℕ → SourceLine
@@ -80,34 +68,14 @@ breaks_first stop line why = record { line = line; more = []; next = refl; withi
 
 -- Nothing was read before the stop.
 pub cut_first : (stop : Stop) → CutAt stop [] (read_by stop)
-cut_first (LineTooLong file) = record {
-  earlier = [];
-  later = read_by (LineTooLong file);
-  whole = refl;
-  emits = refl;
-  next = breaks_first (LineTooLong file) (line_of file (LINE_LENGTH + 1) 0) (refl, omega arith);
-}
-cut_first TooMuchText = record {
-  earlier = [];
-  later = read_by TooMuchText;
-  whole = refl;
-  emits = refl;
-  next = breaks_first TooMuchText (line_of (record { 0 = 0 }) 0 (BYTES + 1))
-      (record { passes = inr (omega arith); short = omega arith });
-}
+cut_first (LineTooLong file) = grind (arith, breaks_first)
+cut_first TooMuchText = grind (arith, breaks_first)
 cut_first stop = record { earlier = []; later = []; whole = refl; emits = refl; next = tt }
 
 pub silent_broke : (stop : Stop) (files : List (List ℕ)) (now : Devices) → StopsReading stop
     → files_named stop ≤ length files
     → Breaks (reads files (read_by stop)) (ending stop (subject files stop)) now (left_by stop (subject files stop) now)
-silent_broke stop files now kind known =
-    let cut = cut_first stop in
-    record {
-      earlier = cut.earlier;
-      later = cut.later;
-      whole = cut.whole;
-      fails = fails_so stop files files [] cut.earlier cut.later now kind (sym (append-nil files)) known cut.next;
-    }
+silent_broke stop files now kind known = grind (arith, cut_first, fails_so, append-nil)
 
 pub reading_ends : (stop : Stop) (about : List ℕ) {l l' : SinkModel} → StopsReading stop
     → Logs (stop_line stop about) l l' → LogsEnding (ending stop about) l l'

@@ -1,5 +1,5 @@
 -- An expander between outputs, with its store and its plan.
-use Rattle.cweb_tools.proofs.Common.{◌≡◌, ℕ, Bool, List, length, map, refl, sym, ◌∙◌, ap, subst, Bor, All, Result, File, opened_file_names, FileNames, Stop, Stored, Token, IsMarkBelow, expand, left, Planned, output_name_at, output_at, root_at, root_list, setting, file, names, Expander, SinkModel, ending_of, DoesInBoth, IsReady, StaysReady, output_ending, file_at, planned_files, left_in, output_acts, outputs_acts, output_file, Failed}
+use Rattle.cweb_tools.proofs.Common.{◌≡◌, ℕ, Bool, List, length, map, refl, sym, ◌∙◌, ap, subst, Bor, All, Result, File, opened_file_names, FileNames, Stop, Stored, Token, IsMarkBelow, expand, left, Planned, output_name_at, output_at, root_at, root_list, setting, file, names, Expander, SinkModel, ending_of, DoesInBoth, IsReady, StaysReady, output_ending, file_at, planned_files, left_in, output_acts, outputs_acts, output_file, Failed, arith}
 use Rattle.cweb_tools.proofs.Marks.{expansion_all}
 
 pub stays : {names : FileNames} {e : Expander} → IsReady names e → StaysReady e e
@@ -27,9 +27,7 @@ pub text_on : (files : FileNames) (a b : Expander) (ts : List Token)
     → b.store ≡ a.store → left a.store.now b.frames.items ≡ ts
     → file (setting b.store.now (opened_file_names files)) (left_in b)
     ≡ file (setting a.store.now (opened_file_names files)) ts
-text_on files a b ts same yields =
-    ap (λ (s : Bor Stored). file (setting s.now (opened_file_names files)) (left s.now b.frames.items)) same
-    ∙ ap (λ (ts : List Token). file (setting a.store.now (opened_file_names files)) ts) yields
+text_on files a b ts same yields = grind arith
 
 -- The acts of an output are those of the initial expander.
 pub output_on : {A : Type 0} (progress : Bool) (files : FileNames) {a b : Expander}
@@ -42,10 +40,9 @@ output_on progress files {a} {b} n r {x} {y} {k} {l} on does = subst (λ (f : Fi
     on.plan does)
 
 -- The acts of all outputs are those of the store and the plan.
-pub all_on : {A : Type 0} (progress : Bool) (files : FileNames) (e : Expander) {store : Stored} {plan : Planned}
-    (r : Result A Failed) {x y : SinkModel} {k l : SinkModel} → e.store.now ≡ store → e.plan.now ≡ plan
+pub all_on : (progress : Bool) (files : FileNames) (e : Expander) {s : Bor Stored} {p : Bor Planned}
+    {store : Stored} (r : Result (Unit {0}) Failed) {x y k l : SinkModel} → e.store ≡ s → s.now ≡ store → e.plan ≡ p
     → DoesInBoth (outputs_acts progress (planned_files files e)) (output_ending e.plan.now.outputs r) x y k l
-    → DoesInBoth
-    (outputs_acts progress (map (output_file store (opened_file_names files)) plan.outputs))
-    (output_ending plan.outputs r) x y k l
-all_on progress files e {store} {plan} r {x} {y} {k} {l} of_store of_plan does = rw (← of_plan) (rw (← of_store) does)
+    → DoesInBoth (outputs_acts progress (map (output_file store (opened_file_names files)) p.now.outputs))
+    (output_ending p.now.outputs r) x y k l
+all_on progress files e r of_store is of_plan does = rw (← of_plan) (rw (← is) (rw (← of_store) does))

@@ -1,5 +1,5 @@
 -- Plans and refusals.
-use Rattle.cweb_tools.proofs.Common.{◌≡◌, ◌∙◌, ℕ, List, [], ◌∷◌, refl, ap, subst, flat_map, IfSome, Option, None, Some, Result, Ok, Err, Stored, Planned, Refusal, bad_name, same_name, cycle, IsExpectedFault, PlanFault, Cycle, SameName, BadName, fault, line, plan_item, LogItem, SinkModel, Wrote, DoesInLog, log_ending, EndsInLog, plans, says, status_by, refusal_message, refused, plan_made, planning, planning_by, refusal_in}
+use Rattle.cweb_tools.proofs.Common.{◌≡◌, ◌∙◌, ℕ, List, [], ◌∷◌, refl, ap, subst, flat_map, IfSome, Option, None, Some, Result, Ok, Err, Stored, Planned, Refusal, same_name, cycle, IsExpectedFault, PlanFault, Cycle, SameName, BadName, fault, line, plan_item, LogItem, SinkModel, Wrote, DoesInLog, log_ending, EndsInLog, plans, says, status_by, refusal_message, refused, plan_made, planning, planning_by, refusal_in, arith}
 use Rattle.cweb_out.specs.Outputs as out
 use Rattle.cweb_out.specs.declared.outputs.fault.PlanFault.TheVariants.{Memory}
 use Rattle.cweb_log.proofs.BufferedLog.{logs_by}
@@ -19,12 +19,9 @@ of_some {A = A} o x P is holds = let whole : IfSome (Some x) P = subst (λ (o : 
 -- The item of a fault that is a refusal.
 refusal_item : (w : Stored) (main : List ℕ) (f : PlanFault) (r : Refusal)
     → refusal_in f ≡ Some r → plan_item w main f ≡ fault (refusal_message w main r)
-refusal_item w main (Cycle names) r is =
-    let same : cycle names.items ≡ r = cc in ap (λ (r : Refusal). fault (refusal_message w main r)) same
-refusal_item w main (SameName name) r is =
-    let same : same_name name ≡ r = cc in ap (λ (r : Refusal). fault (refusal_message w main r)) same
-refusal_item w main (BadName output) r is =
-    let same : bad_name output ≡ r = cc in ap (λ (r : Refusal). fault (refusal_message w main r)) same
+refusal_item w main (Cycle names) r is = grind arith
+refusal_item w main (SameName name) r is = grind arith
+refusal_item w main (BadName output) r is = grind arith
 refusal_item w main Memory r is = absurd (cc)
 
 -- A refusal was logged.
@@ -46,12 +43,7 @@ pub refused_by : {w : Stored} {main : List ℕ} (f : PlanFault)
     → IsExpectedFault (out.planned w main) f → (f ≡ Memory → ⊥) → IsRefused w main f
 refused_by (Cycle names) expected never = record { refusal = cycle names.items; is_refusal = refl; expected = expected }
 refused_by (SameName name) expected never = record { refusal = same_name name; is_refusal = refl; expected = expected }
-refused_by (BadName output) expected never = record {
-  refusal = bad_name output;
-  is_refusal = refl;
-  expected =
-      expected;
-}
+refused_by (BadName output) expected never = grind arith
 refused_by Memory expected never = absurd (never refl)
 
 pub planning_made : (w : Stored) (files : List (List ℕ)) (main : List ℕ) (p : Planned)

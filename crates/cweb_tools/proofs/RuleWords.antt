@@ -1,10 +1,10 @@
 -- The words of a rule, one after the other.
 use Rattle.std.proofs.Common.{◌≡◌, ◌<◌, ◌+◌, ℕ, List, [], ◌∷◌, ◌++◌, map, length, drop, drop-cons, get_or, refl, sym, ◌∙◌, ap, arith, suc, add-one, append_assoc}
 use Rattle.std.proofs.lemmas.List.{drop-map, length-drop, length-map}
-use Rattle.std.specs.Prelude.{fold, codes, Bool, true, false}
+use Rattle.std.specs.Prelude.{fold, codes}
 use Rattle.std.specs.Borrow.{Bor}
 use Rattle.std.specs.List.{flat_map}
-use Rattle.cweb_tools.specs.Depfile.{Wrapped, add_word, colon, empty_rule, escaped, has_equals, led, position_before, prerequisite_words, target_words}
+use Rattle.cweb_tools.specs.Depfile.{Wrapped, add_word, colon, empty_rule, escaped, led, position_before, prerequisite_words, target_words}
 use Rattle.cweb_tools.specs.declared.depfile.escape.Position.{Position}
 use Rattle.cweb_tools.specs.declared.depfile.escape.Position.TheVariants.{Target, Inner, Last}
 use Rattle.cweb_tools.specs.inner.RuleModel.{keys_of, lead_words}
@@ -12,11 +12,7 @@ use Rattle.cweb_tools.specs.inner.RuleModel.{keys_of, lead_words}
 -- The next of the remaining names.
 pub next_name : (names : List (Bor (List ℕ))) (at : ℕ) (other : Bor (List ℕ)) → at < length names
     → drop at (keys_of names) ≡ (get_or names at other).now ∷ drop (at + 1) (keys_of names)
-next_name names at other within = drop-map (λ (name : Bor (List ℕ)). name.now) at names
-    ∙ ap (map (λ (name : Bor (List ℕ)). name.now)) (drop-cons names at other within)
-    ∙ ap (λ (rest : List (List ℕ)). (get_or names at other).now ∷ rest)
-    (sym (drop-map (λ (name : Bor (List ℕ)). name.now) (suc at) names)
-    ∙ ap (λ (n : ℕ). drop n (keys_of names)) (sym (add-one at)))
+next_name names at other within = grind (arith, drop-map, drop-cons, add-one)
 
 no_other : (names : List (List ℕ)) → length names ≡ 0 → position_before names ≡ Last
 no_other [] none = refl
@@ -29,21 +25,11 @@ another (name ∷ names) some = refl
 -- The position of a prerequisite before the remaining names.
 pub is_last : (names : List (Bor (List ℕ))) (at : ℕ) → at + 1 ≡ length names
     → Last ≡ position_before (drop (at + 1) (keys_of names))
-is_last names at last = sym (no_other _ (omega (
-  arith,
-  last,
-  length-drop (at + 1) (keys_of names),
-  length-map names (λ (name : Bor (List ℕ)). name.now),
-)))
+is_last names at last = grind (arith, no_other, length-drop, length-map)
 
 pub is_inner : (names : List (Bor (List ℕ))) (at : ℕ) → at + 1 < length names
     → Inner ≡ position_before (drop (at + 1) (keys_of names))
-is_inner names at inner = sym (another _ (omega (
-  arith,
-  inner,
-  length-drop (at + 1) (keys_of names),
-  length-map names (λ (name : Bor (List ℕ)). name.now),
-)))
+is_inner names at inner = grind (arith, another, length-drop, length-map)
 
 -- One more prerequisite was added.
 pub word_added : (now new : Wrapped) (names : List (Bor (List ℕ))) (at : ℕ) (other : Bor (List ℕ)) (position : Position)
@@ -51,32 +37,19 @@ pub word_added : (now new : Wrapped) (names : List (Bor (List ℕ))) (at : ℕ) 
     → new ≡ add_word now (escaped position (get_or names at other).now)
     → fold add_word now (prerequisite_words (drop at (keys_of names))) ≡ all
     → fold add_word new (prerequisite_words (drop (at + 1) (keys_of names))) ≡ all
-word_added now new names at other position all within at_is is before =
-    ap (λ (w : Wrapped). fold add_word w (prerequisite_words (drop (at + 1) (keys_of names))))
-    (is ∙ ap (λ (p : Position). add_word now (escaped p (get_or names at other).now)) at_is)
-    ∙ ap (λ (ns : List (List ℕ)). fold add_word now (prerequisite_words ns)) (sym (next_name names at other within))
-    ∙ before
+word_added now new names at other position all within at_is is before = grind (arith, next_name)
 
 -- One more empty rule was appended.
 pub rule_added : (lead text new whole : List ℕ) (names : List (Bor (List ℕ))) (at : ℕ) (other : Bor (List ℕ))
     → at < length names → new ≡ text ++ empty_rule lead (get_or names at other).now
     → text ++ flat_map (empty_rule lead) (drop at (keys_of names)) ≡ whole
     → new ++ flat_map (empty_rule lead) (drop (at + 1) (keys_of names)) ≡ whole
-rule_added lead text new whole names at other within is before =
-    ap (λ (t : List ℕ). t ++ flat_map (empty_rule lead) (drop (at + 1) (keys_of names))) is
-    ∙ append_assoc text (empty_rule lead (get_or names at other).now) _
-    ∙ ap (λ (ns : List (List ℕ)). text ++ flat_map (empty_rule lead) ns) (sym (next_name names at other within))
-    ∙ before
+rule_added lead text new whole names at other within is before = grind (arith, append_assoc, next_name)
 
 -- What comes before the inputs is a prerequisite like others.
 pub lead_is : (names : List (List ℕ)) → prerequisite_words (led names) ≡ lead_words names ++ prerequisite_words names
 lead_is [] = refl
-lead_is (name ∷ names) = by_test (has_equals name) refl
-  where
-    by_test : (test : Bool) → has_equals name ≡ test
-        → prerequisite_words (led (name ∷ names)) ≡ lead_words (name ∷ names) ++ prerequisite_words (name ∷ names)
-    by_test true is = rw is refl
-    by_test false is = rw is refl
+lead_is (name ∷ names) = grind arith
 
 -- A colon after the last target.
 no_more : (names : List (List ℕ)) → length names ≡ 0 → codes ":" ≡ colon names
@@ -89,20 +62,10 @@ some_more (name ∷ names) some = refl
 
 module _ {X : Type 0} (name_of : X → List ℕ) (outputs : List X) (at : ℕ) where
   pub is_last_target : at + 1 ≡ length outputs → codes ":" ≡ colon (drop (at + 1) (map name_of outputs))
-  is_last_target last = no_more _ (omega (
-    arith,
-    last,
-    length-drop (at + 1) (map name_of outputs),
-    length-map outputs name_of,
-  ))
+  is_last_target last = grind (arith, no_more, length-drop, length-map)
 
   pub is_inner_target : at + 1 < length outputs → [] ≡ colon (drop (at + 1) (map name_of outputs))
-  is_inner_target inner = some_more _ (omega (
-    arith,
-    inner,
-    length-drop (at + 1) (map name_of outputs),
-    length-map outputs name_of,
-  ))
+  is_inner_target inner = grind (arith, some_more, length-drop, length-map)
 
   -- One more target was added.
   pub target_added : (now new : Wrapped) (other : X) (mark : List ℕ) (all : Wrapped) → at < length outputs

@@ -39,14 +39,8 @@ fail_once {acts} {old = old} {new = new} (stops (ending stop about) then run log
 
 pub faults_show : {acts : List Act} {expected : ℕ} {old new : Devices} {status : ℕ}
     → RunEnds acts expected old new status → TangleReportsFaults old new status
-faults_show {acts} {old = old} {new = new} (completes run answered) =
-    let same = counts_all acts old new run in record {
-      read = λ failed. absurd (failed same.0);
-      written = λ failed. absurd (failed same.1);
-      logged = λ failed. absurd (failed same.2);
-    }
-faults_show (stops why then run logs answered) =
-    record { read = λ failed. answered; written = λ failed. answered; logged = λ failed. answered }
+faults_show {acts} {old = old} {new = new} (completes run answered) = grind (arith, counts_all)
+faults_show (stops why then run logs answered) = grind arith
 
 pub leave_devices : (world : World) (args : Option OptionsModel) (before after : Devices) (status : ℕ)
     → (run : TanglePromises world args before after status)

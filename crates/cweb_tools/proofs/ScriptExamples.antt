@@ -1,18 +1,17 @@
 -- Worked examples: scripts of `ctangle`, with log, files and end.
-use Rattle.cweb_tools.proofs.Common.{◌≡◌, true, false, List, ℕ, [], ◌∷◌, ◌++◌, codes, File, LogItem, fault, located, shown_by_default, Shown, Planning, TangleCourse, change_not_there, not_there, planned, refused, tangling, tangle_files, tangle_status, unread, flat_map, line, logged_items, script}
+use Rattle.cweb_tools.proofs.Common.{◌≡◌, true, false, List, ℕ, [], ◌∷◌, ◌++◌, codes, File, LogItem, fault, located, options_by, shown_by, shown_by_default, Shown, Planning, TangleCourse, change_not_there, not_there, planned, refused, tangling, tangle_files, tangle_status, unread, flat_map, line, logged_items, script}
 use Rattle.std.specs.Fmt.{digits}
 
 -- The log of a whole run.
 abbrev pub tangle_log : Shown → TangleCourse → List ℕ
 tangle_log shown course = flat_map line (logged_items (script shown course))
 
--- The options `-bph`.
-abbrev quiet : Shown
-quiet = record { banner = false; progress = false; closing = false; statistics = false }
+-- What an option word shows.
+abbrev shown_with : List ℕ → Shown
+shown_with word = shown_by (options_by (word ∷ codes "a" ∷ []))
 
--- All options on.
-abbrev all_shown : Shown
-all_shown = record { banner = true; progress = true; closing = true; statistics = true }
+abbrev quiet : Shown
+quiet = shown_with (codes "-bph")
 
 abbrev file : List ℕ → List ℕ → File
 file name bytes = record { name = name; bytes = bytes }
@@ -45,8 +44,9 @@ faulty = course 1 0 [] (located (codes "f.w") 3 (codes "String did not end") ∷
     (planned (file (codes "f.c") (codes "M\n") ∷ file (codes "a.h") (codes "A\n") ∷ []) true)
 
 record Computed : Type 0 where
-  plain_log : tangle_log all_shown plain ≡ codes "This is CTANGLE, profile of CWEB 3\n*1\nWriting hello.c\n"
-      ++ codes "Sections: 2. Names: 1. Macros: 0.\n(No errors were found.)\n"
+  plain_log : tangle_log (shown_with (codes "+s")) plain
+      ≡ codes "This is CTANGLE, profile of CWEB 3\n*1\nWriting hello.c\nSections: 2. Names: 1. Macros: 0.\n"
+      ++ codes "(No errors were found.)\n"
   plain_files : tangle_files quiet plain ≡ file (codes "hello.c") (codes "x\n") ∷ []
   quiet_log : tangle_log quiet plain ≡ []
   plain_status : tangle_status quiet plain ≡ 0

@@ -1,5 +1,5 @@
 -- The law of blanks, by induction on the tokens.
-use Rattle.cweb_tools.proofs.Common.{◌≡◌, ℕ, Bool, true, false, cond, ◌==◌, not, List, [], ◌∷◌, ◌++◌, Option, Some, None, All, refl, ap, sym, ◌∙◌, append_assoc, codes, if◌then◌else◌, nat_le, decimal, list_all, flat_map-append, All-head, All-tail, list_all-append, Token, Word, Number, Literal, Punct, Blank, Newline, Join, Head, Tail, first_is, is_quiet, Reading, InPlainC, HasReadTokens, IsReadAs, ReadsAlone, significant, is_insignificant, doubled, at_doubled, is_hash, spelling_of, continues_token, Setting, print_after, file_token_bytes, word_bytes, without_joined_layout, sep, are_apart, IsPlain, Spacing, is_ascii, and_parts, and_from, not-true}
+use Rattle.cweb_tools.proofs.Common.{◌≡◌, ℕ, Bool, true, false, cond, ◌==◌, not, List, [], ◌∷◌, ◌++◌, Option, Some, None, All, refl, ap, ◌∙◌, append_assoc, codes, if◌then◌else◌, nat_le, decimal, list_all, flat_map-append, All-head, All-tail, list_all-append, Token, Word, Number, Literal, Punct, Blank, Newline, Join, Head, Tail, first_is, is_quiet, Reading, InPlainC, HasReadTokens, IsReadAs, ReadsAlone, significant, is_insignificant, doubled, at_doubled, is_hash, spelling_of, continues_token, Setting, print_after, file_token_bytes, word_bytes, without_joined_layout, sep, are_apart, IsPlain, Spacing, is_ascii, and_parts, and_from, not-true, arith}
 use Rattle.cweb_rules.proofs.Joins.{unlike}
 use Rattle.cweb_scan.specs.Lexemes.{lex}
 use Rattle.cweb_scan.proofs.Gaps.{one_more}
@@ -24,29 +24,20 @@ quiet_doubled (b ∷ x) h =
     ∙ ap (λ t. b ∷ t) (quiet_doubled x q.1)
 
 head_text : (n : ℕ) → doubled (47 ∷ 42 ∷ decimal n ++ 58 ∷ 42 ∷ 47 ∷ []) ≡ comment_of (decimal n ++ 58 ∷ [])
-head_text n =
-    let d = decimal n in
-    ap (λ t. 47 ∷ 42 ∷ t) (flat_map-append at_doubled d (58 ∷ 42 ∷ 47 ∷ []) ∙ ap
-    (λ t. t ++ 58 ∷ 42 ∷ 47 ∷ []) (quiet_doubled d (quiet_decimal n)) ∙ sym (append_assoc d (58 ∷ []) (42 ∷ 47 ∷ [])))
+head_text n = grind (arith, flat_map-append, quiet_doubled, quiet_decimal, append_assoc)
 
 tail_text : (n : ℕ) → doubled (47 ∷ 42 ∷ 58 ∷ decimal n ++ 42 ∷ 47 ∷ []) ≡ comment_of (58 ∷ decimal n)
-tail_text n =
-    let d = decimal n in
-    ap (λ t. 47 ∷ 42 ∷ 58 ∷ t)
-    (flat_map-append at_doubled d (42 ∷ 47 ∷ []) ∙ ap (λ t. t ++ 42 ∷ 47 ∷ []) (quiet_doubled d (quiet_decimal n)))
+tail_text n = grind (arith, flat_map-append, quiet_doubled, quiet_decimal)
 
 quiet_head : (n : ℕ) → list_all is_quiet (decimal n ++ 58 ∷ []) ≡ true
-quiet_head n = list_all-append is_quiet (decimal n) (58 ∷ [])
-    ∙ and_from (list_all is_quiet (decimal n)) true (quiet_decimal n) refl
+quiet_head n = grind (arith, list_all-append, and_from, quiet_decimal)
 
 -- The first byte of a printed token.
 text_first : (s : Setting) (left : Option Token) (u : Token) → IsPlain u → First u (doubled (file_token_bytes s left u))
 text_first s left Blank h = record { byte = 32; rest = []; is = refl; starts = refl }
 text_first s left Newline h = record { byte = 10; rest = []; is = refl; starts = refl }
-text_first s left (Head n) h =
-    record { byte = 47; rest = 42 ∷ (decimal n ++ 58 ∷ []) ++ 42 ∷ 47 ∷ []; is = head_text n; starts = refl }
-text_first s left (Tail n) h =
-    record { byte = 47; rest = 42 ∷ (58 ∷ decimal n) ++ 42 ∷ 47 ∷ []; is = tail_text n; starts = refl }
+text_first s left (Head n) h = grind (arith, head_text)
+text_first s left (Tail n) h = grind (arith, tail_text)
 text_first s left (Word b) h = rw (ascii_text s b h.0) (first_of h.1)
 text_first s left (Number b) h = first_of h
 text_first s left (Literal b) h = first_of h
@@ -104,8 +95,7 @@ seam_after s u (v ∷ ts) h =
 
 blank_before : (r : Reading) (v : Bool) (text more : List ℕ) → InPlainC r.state
     → lex r (doubled ((blank_if v ++ text) ++ more)) ≡ lex r (doubled text ++ doubled more)
-blank_before r true text more h =
-    run_blank r (doubled (text ++ more)) h ∙ ap (lex r) (flat_map-append at_doubled text more)
+blank_before r true text more h = grind (arith, run_blank, flat_map-append)
 blank_before r false text more h = ap (lex r) (flat_map-append at_doubled text more)
 
 after_sep : (r : Reading) (left : Option Token) (t : Token) (text more : List ℕ) → InPlainC r.state

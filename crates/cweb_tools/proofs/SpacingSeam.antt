@@ -1,14 +1,12 @@
 -- The first byte after a token can't continue it.
-use Rattle.cweb_tools.proofs.Common.{◌≡◌, ℕ, Bool, true, false, ◌&&◌, ◌||◌, ◌==◌, not, List, [], ◌∷◌, refl, ap, sym, ◌∙◌, codes, nat_le, Token, Word, Number, Literal, Verbatim, Punct, Blank, Newline, Join, Defs, Name, Mark, is_one_of, is_digit, is_letter, is_word_byte, after_word, after_number, joins_last, continues_token, is_operator, last_is, are_apart, and-false, or_parts, and-true, or-false}
+use Rattle.cweb_tools.proofs.Common.{◌≡◌, ℕ, Bool, true, false, ◌&&◌, ◌||◌, ◌==◌, not, List, [], ◌∷◌, refl, ap, ◌∙◌, codes, Token, Word, Number, Literal, Verbatim, Punct, Blank, Newline, Join, Defs, Name, Mark, is_digit, is_word_byte, after_word, after_number, joins_last, continues_token, is_operator, last_is, are_apart, and-false, or_parts, and-true, or-false, arith}
 use Rattle.cweb_rules.proofs.Stays.{begins_number}
-use Rattle.cweb_texts.specs.Edges as print
 use Rattle.cweb_tools.proofs.SpacingStarts.{joins, Starts, none_of}
 
 not_both : (b : List ℕ) (c : ℕ) → is_digit c ≡ false
     → (last_is is_operator b && is_operator c) ≡ false → joins_last joins b c ≡ false
 not_both [] c d h = refl
-not_both (x ∷ []) c d h =
-    (λ i. ((x == 46) && d i) || (h i && (not (c == 46) || (x == 46)))) ∙ ap (λ v. v || false) (and-false (x == 46))
+not_both (x ∷ []) c d h = grind (arith, and-false)
 not_both (x ∷ y ∷ b) c d h = not_both (y ∷ b) c d h
 
 never : (b : List ℕ) (c : ℕ) → is_digit c ≡ false → is_operator c ≡ false → joins_last joins b c ≡ false
@@ -16,8 +14,7 @@ never b c d h = not_both b c d (ap (λ v. last_is is_operator b && v) h ∙ and-
 
 number_byte : (digit dot op : Bool) → (digit || dot) ≡ true
     → (digit ≡ true → op ≡ false) → (x : Bool) → (x && op && (not dot || false)) ≡ false
-number_byte true dot op h f x =
-    ap (λ v. x && v && (not dot || false)) (f refl) ∙ ap (λ v. v && (not dot || false)) (and-false x)
+number_byte true dot op h f x = grind (arith, and-false)
 number_byte false true op h f x = and-false (x && op)
 number_byte false false op h f x = cc
 
@@ -32,21 +29,10 @@ before_number (x ∷ y ∷ b) c n h = before_number (y ∷ b) c n h
 word_not_operator : (c : ℕ) → is_word_byte c ≡ true → is_operator c ≡ false
 word_not_operator c h = none_of is_word_byte (codes "+-*/%&|^!=<>.:#?") c refl h
 
-no_digit_after : (c : ℕ) → is_word_byte c ≡ false → is_digit c ≡ false
-no_digit_after c h =
-    let e = or_parts (is_letter c || is_digit c || is_one_of (codes "_$") c) (nat_le 128 c) h in
-    let f = or_parts (is_letter c || is_digit c) (is_one_of (codes "_$") c) e.0 in
-    (or_parts (is_letter c) (is_digit c) f.0).1
-
 before_comment : (b : List ℕ) (c : ℕ)
     → (false || false || (last_is (λ x. x == 46) b && false) || (last_is is_operator b && (false || true)) || false)
     ≡ false → c ≡ 47 → joins_last joins b c ≡ false
-before_comment b c apart h =
-    let last = last_is (λ x. x == 46) b in
-    let op = last_is is_operator b in
-    let e = or_parts ((last && false) || (op && (false || true))) false apart in
-    let f = or_parts (last && false) (op && (false || true)) e.0 in
-    ap (joins_last joins b) h ∙ not_both b 47 refl f.1
+before_comment b c apart h = grind (arith, or_parts, not_both)
 
 -- If the rules put no blank, the next byte doesn't continue the token.
 pub seam : (left right : Token) (c : ℕ) → are_apart left right ≡ false → Starts right c
@@ -58,30 +44,11 @@ seam (Word b) (Punct d) c apart h = h.0
 seam (Number b) (Word d) c apart h = cc
 seam (Number b) (Number d) c apart h = cc
 seam (Number b) (Literal d) c apart h = cc
-seam (Number b) (Punct d) c apart h =
-    let e = or_parts (print.first_is (print.is_one_of (codes ".+-")) d || false || false) false apart in
-    let f = or_parts (print.first_is (print.is_one_of (codes ".+-")) d || false) false e.0 in
-    let g = or_parts (print.first_is (print.is_one_of (codes ".+-")) d) false f.0 in
-    let sign : is_one_of (codes ".+-") c ≡ false =
-    sym (ap (print.first_is (print.is_one_of (codes ".+-"))) h.2) ∙ g.0 in
-    λ i. h.0 i || sign i
+seam (Number b) (Punct d) c apart h = grind (arith, or_parts)
 seam (Punct b) (Word d) c apart h = never b c h.1 (word_not_operator c h.0)
-seam (Punct b) (Number d) c apart h =
-    let last = last_is (λ x. x == 46) b in
-    let op = last_is is_operator b in
-    let e = or_parts ((last && true) || (op && (false || false))) false apart in
-    let f = or_parts (last && true) (op && (false || false)) e.0 in
-    before_number b c h (sym (and-true last) ∙ f.0)
+seam (Punct b) (Number d) c apart h = grind (arith, or_parts, before_number, and-true)
 seam (Punct b) (Literal d) c apart h = never b c h.1 h.0
-seam (Punct b) (Punct d) c apart h =
-    let last = last_is (λ x. x == 46) b in
-    let op = last_is is_operator b in
-    let e = or_parts ((last && false) || (op && (print.first_is is_operator d || false))) false apart in
-    let f = or_parts (last && false) (op && (print.first_is is_operator d || false)) e.0 in
-    let is : (op && is_operator c) ≡ false =
-    ap (λ v. op && v) (sym (or-false (is_operator c)) ∙ sym (ap (λ q. print.first_is is_operator q || false) h.2))
-    ∙ f.1 in
-    not_both b c (no_digit_after c (or_parts (is_word_byte c) (is_one_of (codes "\"'") c) h.0).0) is
+seam (Punct b) (Punct d) c apart h = grind (arith, or_parts, or-false, not_both)
 seam (Punct b) Blank c apart h = ap (joins_last joins b) h ∙ never b 32 refl refl
 seam (Punct b) Newline c apart h = ap (joins_last joins b) h ∙ never b 10 refl refl
 seam left (Verbatim d) c apart h = absurd h

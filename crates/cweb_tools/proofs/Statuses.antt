@@ -1,7 +1,7 @@
 -- The status of a run that nothing stops.
 use Rattle.cweb_tools.specs.declared.rule_targets.Targets.{Targets}
-use Rattle.cweb_tools.proofs.Common.{◌≡◌, ◌<◌, ◌+◌, ℕ, Bool, true, false, cond, ◌||◌, List, [], ◌∷◌, ◌++◌, map, refl, sym, ◌∙◌, ap, arith, nat_tests, sum_by-cons, or-true, or-false, list_any-append, ◌==◌, count_by, if◌then◌else◌, list_any, WebNotOpened, ChangeNotOpened, LogItem, banner, fault_count, faults, is_fault, no_errors, no_text, see_warning, stopped, Shown, Act, opens, reads, says, Numbers, Planning, TangleCourse, logged_items, planned, planned_acts, refused, tangle_status, Web, acts_status, depend_acts, depend_web_acts, depend_plan_acts, tangling, unread, not_there, change_not_there, web_acts, when, web_status, status_by}
-use Rattle.cweb_tools.proofs.WebActs.{when_on, starred_on, outputs_on, closing_on}
+use Rattle.cweb_tools.proofs.Common.{◌≡◌, ◌<◌, ◌+◌, ℕ, Bool, true, false, cond, ◌||◌, List, [], ◌∷◌, ◌++◌, map, refl, sym, ◌∙◌, ap, arith, nat_tests, sum_by-cons, or-true, or-false, list_any-append, ◌==◌, count_by, if◌then◌else◌, list_any, WebNotOpened, ChangeNotOpened, LogItem, banner, fault_count, faults, is_fault, no_errors, see_warning, stopped, Shown, Act, opens, reads, says, Numbers, Planning, TangleCourse, logged_items, planned, planned_acts, refused, tangle_status, Web, acts_status, depend_acts, depend_web_acts, depend_plan_acts, tangling, unread, not_there, change_not_there, web_acts, when, web_status, status_by}
+use Rattle.cweb_tools.proofs.WebActs.{when_on, starred_on, outputs_on, closing_on, warning_on}
 
 -- Whether acts log a fault.
 abbrev has_fault : List Act → Bool
@@ -45,9 +45,9 @@ fault-planned : (shown : Shown) (numbers : Numbers) (count : ℕ) (plan : Planni
 fault-planned shown numbers count (refused text) = refl
 fault-planned shown numbers count (planned files missing) =
     let on = quiet_on false in
-    when_on IsQuiet (Shows false) on missing no_text _ refl (outputs_on IsQuiet (Shows false) on shown.progress files _
-    (λ name. refl) (λ name text acts rest. rest) (closing_on IsQuiet (Shows false) on shown numbers count missing refl
-    (shuts (count == 0) missing count) refl))
+    warning_on IsQuiet (Shows false) on shown numbers count files missing refl (outputs_on IsQuiet (Shows false) on
+    shown.progress files _ (λ name. refl) (λ name text acts rest. rest) (closing_on IsQuiet (Shows false) on shown
+    numbers count missing refl (shuts (count == 0) missing count) refl))
 
 count_step : (b any : Bool) (n m : ℕ) → m ≡ cond b 1 0 + n → (any ≡ true → 0 < n) × (any ≡ false → n ≡ 0)
     → ((b || any) ≡ true → 0 < m) × ((b || any) ≡ false → m ≡ 0)

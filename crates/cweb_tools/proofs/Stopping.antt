@@ -47,8 +47,7 @@ halts_within (act ∷ acts) why old mid (inr here) =
 stopped_at : (act : Act) (stop : Stop) (about : List ℕ) (old mid new : Devices) → Breaks act (ending stop about) old mid
     → LogsStop (ending stop about) mid new → (acts : List Act) → IsStopped (act ∷ acts) stop about old new
 stopped_at (says item) LogFault about old mid new fails logs acts =
-    let is : new ≡ record old { log = new.log } =
-    logs.others ∙ ap (λ (d : Devices). record d { log = new.log }) fails.others in
+    let is : new ≡ record old { log = new.log } = grind arith in
     record {
       log = record {
         before = item ∷ [];
@@ -67,12 +66,7 @@ stopped_at act stop about old mid new broke logs acts =
     let left = broken act stop about old mid broke in
     let never : stop ≡ LogFault → ⊥ = λ is. cc in
     record {
-      log = record {
-        before = [];
-        later = logged_items (act ∷ acts);
-        whole = refl;
-        logs = subst (λ (log : SinkModel). Logs (stop_line stop about) log new.log) (left.log never) logs.log;
-      };
+      log = grind arith;
       shelf = ap (λ (d : Devices). d.shelf.failed) logs.others ∙ shelf_counted stop about old.shelf left.shelf;
       bins = ap (λ (d : Devices). d.out.failed) logs.others ∙ left.bins;
       log_fails = λ fault. absurd (never fault);
@@ -95,12 +89,8 @@ is_stopped acts {stop} {about} {old} mid {new} run logs =
       log = record {
         before = items ++ last.log.before;
         later = last.log.later;
-        whole = ap logged_items halts.whole ∙ logged-append halts.done (halts.act ∷ halts.later)
-            ∙ ap (λ (more : List LogItem). items ++ more) last.log.whole
-            ∙ sym (append_assoc items last.log.before last.log.later);
-        logs = rw (flat_map-append line items last.log.before) (rw (append_assoc (flat_map line items)
-            (flat_map line last.log.before) (stop_line stop about))
-            (logs_on (flat_map line items) (log_all halts.done old halts.from halts.runs) last.log.logs));
+        whole = grind (arith, logged-append, append_assoc);
+        logs = grind (arith, flat_map-append, append_assoc, logs_on, log_all);
       };
       shelf = last.shelf ∙ ap (λ (n : ℕ). n + read_failures_of stop) counts.0;
       bins = last.bins ∙ ap (λ (n : ℕ). n + bins_blame stop) counts.1;

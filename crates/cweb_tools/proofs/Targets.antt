@@ -8,10 +8,7 @@ use Rattle.cweb_tools.specs.Depend.{among_outputs}
 use Rattle.std.proofs.lemmas.List.{take-map}
 use Rattle.cweb_tools.proofs.NoFiles.{depend-prints}
 use Rattle.cweb_tools.proofs.Statuses.{same_status}
-use Rattle.cweb_tools.proofs.WebActs.{when_on, said_on, starred_on, closing_on}
-
-abbrev Any : LogItem → Type 0
-Any item = Unit {0}
+use Rattle.cweb_tools.proofs.WebActs.{Any, when_on, said_on, starred_on, closing_on, warning_on}
 
 -- The acts write these files.
 abbrev Writes : List File → List Act → Type 0
@@ -33,7 +30,8 @@ tangle_written : (shown : Shown) (files : List (List ℕ)) (events : List Event)
 tangle_written shown files events web outputs missing is =
     let count = fault_count web.faults in
     let plan : Writes outputs (planned_acts shown web.numbers count (planned outputs missing)) =
-    when_on Any (Writes outputs) (says_on outputs) missing _ _ tt (outputs_written shown.progress outputs _
+    warning_on Any (Writes outputs) (says_on outputs) shown web.numbers count outputs missing tt
+    (outputs_written shown.progress outputs _
     (closing_on Any (Writes []) (says_on []) shown web.numbers count missing tt tt refl)) in
     when_on Any (Writes outputs) (says_on outputs) shown.banner _ (opens ∷ reads files events ∷ web_acts shown web) tt
     (starred_on Any (Writes outputs) (says_on outputs) shown.progress web.starred _ (λ ns. tt)

@@ -12,7 +12,7 @@ use Rattle.cweb_print.specs.declared.printer.Printer.{Printer}
 use Rattle.cweb_tools.specs.inner.Expanders.{StaysReady, left_in}
 use Rattle.cweb_tools.specs.Script.{web_acts}
 use Rattle.cweb_tools.specs.inner.Tangle.{status_by, fault_count, LaterActs}
-use Rattle.cweb_log.specs.declared.shown.Shown.{Shown}
+use Rattle.cweb_log.specs.declared.options.Shown.{Shown}
 use Rattle.cweb_tools.specs.Script as script
 
 abbrev pub course_of : (List ℕ → Option (List ℕ)) → List (List ℕ) → Option (List ℕ) → Course

@@ -1,6 +1,10 @@
 -- A property of acts that holds of none, and is preserved by logging and writing, holds of the acts for a web.
-use Rattle.cweb_tools.proofs.Common.{ℕ, Bool, true, false, List, [], ◌∷◌, ◌++◌, map, subst, append-nil, File, LogItem, closing, starred, Shown, Act, says, writes, Numbers, closing_acts, outputs_acts, starred_acts, when}
+use Rattle.cweb_tools.proofs.Common.{ℕ, Bool, true, false, List, [], ◌∷◌, ◌++◌, map, append-nil, File, LogItem, closing, no_text, starred, Shown, Act, reserves, says, writes, Numbers, closing_acts, outputs_acts, planned, planned_acts, starred_acts, when, arith}
 use Rattle.cweb_log.specs.Items.{counts, writing}
+
+-- Any item may be logged.
+abbrev pub Any : LogItem → Type 0
+Any item = Unit {0}
 
 module _ (Says : LogItem → Type 0) (P : List Act → Type 0)
     (says_on : (item : LogItem) (acts : List Act) → Says item → P acts → P (says item ∷ acts)) where
@@ -22,12 +26,15 @@ module _ (Says : LogItem → Type 0) (P : List Act → Type 0)
       → ((name text : List ℕ) (acts : List Act) → P acts → P (writes name text ∷ acts))
       → P acts → P (outputs_acts progress files ++ acts)
   outputs_on progress [] acts said written rest = rest
-  outputs_on true (file ∷ files) acts said written rest = says_on _ _ (said file.name)
-      (written file.name file.bytes _ (outputs_on true files acts said written rest))
-  outputs_on false (file ∷ files) acts said written rest =
-      written file.name file.bytes _ (outputs_on false files acts said written rest)
+  outputs_on true (file ∷ files) acts said written rest = grind (arith, outputs_on true files acts said written rest)
+  outputs_on false (file ∷ files) acts said written rest = grind (arith, outputs_on false files acts said written rest)
 
   pub closing_on : (shown : Shown) (numbers : Numbers) (count : ℕ) (missing : Bool) → Says (counts numbers.sections
       numbers.names numbers.macros) → Says (closing count missing) → P [] → P (closing_acts shown numbers count missing)
-  closing_on shown numbers count missing said last none = when_on shown.statistics _ _ said
-      (subst P (append-nil (when shown.closing _)) (when_on shown.closing _ [] last none))
+  closing_on shown numbers count missing said last none = grind (arith, when_on, append-nil)
+
+  -- The acts for a plan are its warning, if that is logged, and those that follow.
+  pub warning_on : (shown : Shown) (numbers : Numbers) (count : ℕ) (files : List File) (missing : Bool) → Says no_text
+      → P (reserves ∷ (outputs_acts shown.progress files ++ closing_acts shown numbers count missing))
+      → P (planned_acts shown numbers count (planned files missing))
+  warning_on shown numbers count files missing said rest = when_on _ _ _ said rest

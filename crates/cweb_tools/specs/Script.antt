@@ -5,7 +5,7 @@ use Rattle.cweb_files.specs.Files.{File}
 use Rattle.cweb_lines.specs.Events.{Event}
 use Rattle.cweb_input.specs.declared.stop.Stop.TheVariants.{Usage, WebNotOpened, ChangeNotOpened}
 use Rattle.cweb_log.specs.Items.{LogItem, banner, starred, fault, is_fault, no_text, writing, counts, closing, stopped}
-use Rattle.cweb_log.specs.declared.shown.Shown.{Shown}
+use Rattle.cweb_log.specs.declared.options.Shown.{Shown}
 use Rattle.cweb_tools.specs.Acts.{Act, judges, says, opens, reads, plans, reserves, writes}
 
 -- The numbers of sections, names and macros of a web.
@@ -56,7 +56,8 @@ outputs_acts progress files = flat_map (λ file. output_acts progress file) file
 abbrev pub planned_acts : Shown → Numbers → ℕ → Planning → List Act
 planned_acts shown numbers count (refused text) = says (fault text) ∷ closing_acts shown numbers (count + 1) false
 planned_acts shown numbers count (planned files missing) =
-    when missing no_text ++ (reserves ∷ (outputs_acts shown.progress files ++ closing_acts shown numbers count missing))
+    when missing no_text
+    ++ (reserves ∷ (outputs_acts shown.progress files ++ closing_acts shown numbers count missing))
 
 -- The starred sections, if progress is wanted and there are any.
 abbrev pub starred_acts : Bool → List ℕ → List Act

@@ -14,7 +14,7 @@ use Rattle.cweb_out.specs.Outputs.{Output, Planned, Refusal, root_list}
 use Rattle.cweb_print.specs.Printing.{setting, file}
 use Rattle.cweb_log.specs.Items.{source_item, name_items, refusal_message, scan_item}
 use Rattle.cweb_log.specs.CommandLine.{OptionsModel, shown_by_default}
-use Rattle.cweb_log.specs.declared.shown.Shown.{Shown}
+use Rattle.cweb_log.specs.declared.options.Shown.{Shown}
 use Rattle.cweb_tools.specs.Course as course
 use Rattle.cweb_tools.specs.Course.{Course, IsMergeCourse, change_name}
 use Rattle.cweb_tools.specs.Script.{Numbers, Planning, TangleCourse, Web, unread, not_there, change_not_there, tangling}

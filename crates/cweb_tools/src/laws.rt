@@ -2,7 +2,7 @@
 ghost use Rattle.std.specs.Prelude.{◌≡◌, ℕ, List, None};
 ghost use Rattle.cweb_log.specs.DeviceModels.{Devices};
 ghost use Rattle.cweb_lines.specs.Events.{Event};
-ghost use Rattle.cweb_log.specs.declared.shown.Shown.{Shown};
+ghost use Rattle.cweb_log.specs.declared.options.Shown.{Shown};
 ghost use Rattle.cweb_tools.specs.Acts.{RunEnds};
 ghost use Rattle.cweb_tools.specs.Headline.{files_in};
 ghost use Rattle.cweb_tools.specs.laws.RunEffects.{LeavesFiles, tangle_files};

@@ -75,7 +75,7 @@ fn write_output<B: Bins, L: Sink>(
     write_file(names, expander, buffer, output, bins)
 }
 
-/// Begins an output, prints it and commits it.
+/// Begins an output, prints it and commits it. After a write fault it is abandoned.
 fn write_file<B: Bins>(
     names: &FileNames,
     expander: &mut Expander<'_>,

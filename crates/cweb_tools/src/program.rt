@@ -33,7 +33,7 @@ pub fn read_args<E: Environment>(alloc: Global, env: &E) -> Result<Vec<String>, 
     Err(AllocError)
 }
 
-/// The arguments as slices.
+/// The arguments as slices. That std reads them as they are is only tested.
 pub fn as_slices<'a>(alloc: Global, words: &'a [String]) -> Result<Vec<&'a str>, AllocError>
     ensures { IfOk result (λ slices.
         map (λ slice. slice.now) slices.items ≡ map string_bytes words.now) }

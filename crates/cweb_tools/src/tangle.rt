@@ -5,8 +5,8 @@ ghost use Rattle.cweb_scan.specs.surface.Scan.{scanned_model};
 ghost use Rattle.cweb_out.specs.surface.Outputs.{IsPlanOf};
 ghost use Rattle.cweb_log.specs.CommandLine.{options_by};
 ghost use Rattle.cweb_log.specs.DeviceModels.{CountsFit, contents_of, devices};
-ghost use Rattle.cweb_tools.specs.inner.Does.{SinkCountsFit, DoesInLog, EndsInBoth};
-ghost use Rattle.cweb_log.specs.Items.{banner};
+ghost use Rattle.cweb_tools.specs.inner.Does.{SinkCountsFit, DoesInLog, EndsInBoth, log_ending};
+ghost use Rattle.cweb_log.specs.Items.{banner, no_text};
 ghost use Rattle.cweb_log.specs.surface.Options.{options_of};
 ghost use Rattle.cweb_tools.specs.Acts.{LogsEnding, acts_status, ending};
 ghost use Rattle.cweb_tools.specs.Course.{world_of};
@@ -22,7 +22,7 @@ use crate::saying::{say, say_end, say_starred};
 use crate::scanning::scan_web;
 use crate::tangle::unplanned::tangle_unplanned;
 use crate::web::{Web, say_faults, status};
-use cweb_lines::{Shelf, Sink, Stop};
+use cweb_lines::{Shelf, Sink, SinkFault, Stop};
 use cweb_log::{LogLine, Options, Shown, log_stop};
 use cweb_out::{Bins, Expander, OutBuffer, Plan, plan};
 use std::alloc::Global;
@@ -148,7 +148,7 @@ fn tangle_planned<B: Bins, L: Sink>(
         (B.model bins.old) (B.model bins.new)
         (L.model log.old) (L.model log.new) result }
 {
-    if let Err(_) = say(plan.no_text(), LogLine::NoProgramText, log) {
+    if let Err(_) = say_warning(plan, log) {
         return 1;
     }
     let Ok(mut expander) = Expander::new(alloc, web.store(), plan, 0) else {
@@ -172,6 +172,15 @@ fn tangle_planned<B: Bins, L: Sink>(
         return 1;
     }
     status(count)
+}
+
+/// Logs the warning if a web has no program text.
+fn say_warning<L: Sink>(plan: &Plan, log: &mut L) -> Result<(), SinkFault>
+    requires { (L.model log.old).failed + 1 < 2 ^ 64 }
+    ensures { DoesInLog (when plan.now.no_text no_text) (log_ending result)
+        (L.model log.old) (L.model log.new) }
+{
+    say(plan.no_text(), LogLine::NoProgramText, log)
 }
 
 /// Logs what stopped the writing of the outputs. A log that failed gets no line.

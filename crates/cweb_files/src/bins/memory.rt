@@ -88,6 +88,7 @@ impl Sink for MemoryBins {
 
     ghost model = { bins_model };
 
+    /// With a draft, it never fails within the capacity. It changes no file.
     fn write(&mut self, piece: &[u8]) -> Result<usize, SinkFault>
         requires { bins_failed self.old + 1 < 2 ^ 64 }
         ensures failed { CountsFailure (bins_failed self.old) (bins_failed self.new) result }
@@ -99,7 +100,6 @@ impl Sink for MemoryBins {
         ensures kept { KeepsFiles self.old self.new }
         ensures name { KeepsDraftName self.old self.new }
         ensures room { draft_room self.old ≤ draft_room self.new }
-        // With a draft, a write within its capacity never fails.
         ensures within_room { has_draft self.old ≡ true
             → length (draft_bytes self.old) + length piece.now ≤ draft_room self.old → IsOk result }
     {
@@ -129,13 +129,13 @@ impl Bins for MemoryBins {
     ghost use Rattle.cweb_files.specs.Sinks.{changed, committed, failing, with_draft, without_draft};
     ghost use Rattle.cweb_files.specs.Bins.{refused};
 
+    /// The only fault is `Memory`. The draft has the capacity that was set.
     fn start_file(&mut self, name: &str) -> Result<(), BinFault>
         requires { bins_failed self.old + 1 < 2 ^ 64 }
         ensures begun { OnOk result
             (bins_model self.new ≡ changed (with_draft name.now) (bins_model self.old)) }
         ensures err { IfErr result
             (λ fault. bins_model self.new ≡ refused fault (bins_model self.old)) }
-        // The only fault is `Memory`. The draft has the capacity that was set.
         ensures memory { IfErr result (λ fault. fault ≡ BinFault.Memory) }
         ensures room { OnOk result (new_draft_room self.old ≤ draft_room self.new) }
         ensures set_room { new_draft_room self.new ≡ new_draft_room self.old }
@@ -153,6 +153,7 @@ impl Bins for MemoryBins {
         Ok(())
     }
 
+    /// It allocates nothing, and with a draft it never fails.
     fn commit_file(&mut self) -> Result<(), BinFault>
         requires { bins_failed self.old + 1 < 2 ^ 64 }
         ensures device { IfErr result (λ fault. fault ≡ BinFault.Device) }
@@ -161,7 +162,6 @@ impl Bins for MemoryBins {
         ensures err { OnErr result
             (bins_model self.new ≡ failing without_draft (bins_model self.old)) }
         ensures set_room { new_draft_room self.new ≡ new_draft_room self.old }
-        // It allocates nothing, and with a draft it never fails.
         ensures list { list_room self.new ≡ list_room self.old }
         ensures files { committed_files self.new
             ≡ files_with_draft (committed_files self.old) self.old.draft }

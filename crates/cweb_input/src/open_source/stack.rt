@@ -47,7 +47,7 @@ impl<R: Drop> Stack<R> {
         }
     }
 
-    /// Opens a source within the deepest one.
+    /// Opens a source within the deepest one. The others stay as they are.
     pub fn push(&mut self, text: OpenSource<R>)
         requires room { self.old.depth < OPEN_FILES }
         requires deep { AreDeep self.old.texts }

@@ -41,13 +41,6 @@ pub fn trimmed_length(line: &[u8]) -> usize
     end
 }
 
-fn trim(line: &mut Vec<u8>)
-    ensures { line.new.items ≡ trimmed line.old.items }
-{
-    let length = trimmed_length(line);
-    line.truncate(length);
-}
-
 fn stop_of(fault: LineFault, file: FileId) -> Stop
     ensures { result ≡ stop_for fault file }
 {
@@ -90,7 +83,7 @@ fn take_trimmed<S: Shelf>(
         return Ok(None);
     }
     let size = line.len() + newline_size(taken);
-    trim(line);
+    line.truncate(trimmed_length(line));
     Ok(Some(size))
 }
 

@@ -89,7 +89,9 @@ fn line_after<R: Drop>(
     if before.end >= text.source.lines_end {
         return None;
     }
-    let next = line_from(&text.source, before.end, stage, first, text.may_match)?;
+    let Some(next) = line_from(&text.source, before.end, stage, first, text.may_match) else {
+        return None;
+    };
     Some(Ahead {
         line: LineSpan {
             place: Place {

@@ -1,6 +1,6 @@
 // Lines in the buffer.
 ghost use Rattle.std.specs.Prelude.{◌≡◌, ℕ, List};
-ghost use Rattle.cweb_lines.specs.inner.Ahead.{IsSpanIn, span_bytes, line_span_at};
+ghost use Rattle.cweb_lines.specs.inner.Ahead.{line_span_at};
 ghost use Rattle.cweb_lines.specs.inner.Passing.{ComesNext, top_of};
 
 use crate::merge_state::MergeState;
@@ -32,18 +32,6 @@ impl<R: Drop> MergeState<R> {
                 to: stretch.text,
             }),
             None => None,
-        }
-    }
-
-    /// The bytes of a line in the buffer.
-    #[inline(always)]
-    pub fn bytes_of(&self, line: LineSpan) -> &[u8]
-        requires { IsSpanIn self.now line }
-        ensures { result.now ≡ span_bytes self.now line }
-    {
-        match &self.stack.texts[self.stack.depth - 1] {
-            Some(text) => &text.source.buffer[line.from..line.to],
-            None => &[],
         }
     }
 }

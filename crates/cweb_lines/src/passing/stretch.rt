@@ -55,7 +55,9 @@ pub(crate) fn line_from<R: Drop>(
     ensures one { IfSome result (λ s. s.lines ≡ 1) }
 {
     let pending = &source.buffer[start..source.end];
-    let at = newline_at(pending)?;
+    let Some(at) = newline_at(pending) else {
+        return None;
+    };
     if at > LINE_LENGTH {
         return None;
     }

@@ -12,8 +12,7 @@ options_of options = record {
     banner = options.banner;
     progress = options.progress;
     closing = options.closing;
-    statistics =
-        options.statistics;
+    statistics = options.statistics;
   };
   names = record {
     merge = record {

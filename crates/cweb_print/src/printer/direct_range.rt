@@ -49,7 +49,7 @@ impl<'a> Printer<'a> {
         reached.number
     }
 
-    // The loop reads locals only, so that the writes to `bytes` force no reloads.
+    // Puts a range's tokens that fit. The loop reads locals only, so that the writes to `bytes` force no reloads.
     #[inline(always)]
     fn put_range(&self, store: &Store, part: Part, bytes: &mut [u8], used: usize) -> Reached
         requires open { (left_in_printer self.now).joined ≡ false }

@@ -5,7 +5,7 @@ ghost use Rattle.cweb_store.specs.surface.Tokens.{token_model};
 ghost use Rattle.cweb_scan.specs.inner.FastPaths.{taken_size, HasPlainRoom, IsPlainC, IsPlainToken};
 ghost use Rattle.cweb_scan.specs.inner.FastPaths.{PassesPlain, TakesPlain};
 
-use crate::directive::Directive;
+use crate::directive::{Directive, Last, Stage};
 use crate::rest::Rest;
 use crate::scanner::Scanner;
 use cweb_rules::bytes::{Class, nonempty_span_len};
@@ -38,7 +38,10 @@ impl Scanner {
         ensures err { OnErr result (self.new ≡ self.old) }
     {
         self.builder.push(token)?;
-        let next = Directive::new();
+        let next = Directive {
+            stage: Stage::Outside,
+            last: Last::Other,
+        };
         self.solid = next;
         self.directive = next;
         Ok(())

@@ -30,7 +30,7 @@ token_of_record strings places Blank = spec.Blank
 token_of_record strings places Newline = spec.Newline
 token_of_record strings places Join = spec.Join
 token_of_record strings places Defs = spec.Defs
-token_of_record strings places (Name name) = spec.Name name
+token_of_record strings places (Name n) = spec.Name (record { 0 = n })
 token_of_record strings places (Head section) = spec.Head section
 token_of_record strings places (Tail section) = spec.Tail section
 token_of_record strings places (Mark n) = spec.Mark (place_at places n)
@@ -130,10 +130,3 @@ pub record AreIndexedTokens (kept : StringTableModel) (places : List Place) (rec
     (token_index : TokenIndex) : Type 0 where
   pub tokens : AreTokens kept places records
   pub index : IsTokenIndex token_index (tokens_of kept.strings places records)
-
--- The strings are those of the records, whose uses and Defs are indexed.
-pub record AreClosed (strings : List (List ℕ)) (places : List Place) (records : List Record)
-    (token_index : TokenIndex) : Type 0 where
-  pub numbers : AreRecords (length strings) 0 records (length places)
-  pub bytes : length (text_bytes strings) ≡ interned_token_bytes (tokens_of strings places records)
-  pub index : IsTokenIndex token_index (tokens_of strings places records)

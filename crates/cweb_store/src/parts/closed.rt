@@ -8,7 +8,7 @@ ghost use Rattle.cweb_store.specs.Faults.{is_used};
 ghost use Rattle.cweb_store.specs.inner.Stored.{AreWithin, flag_of};
 
 use crate::parts::PartRange;
-use crate::tokens::closed::ClosedTokens;
+use crate::tokens::list::TokenList;
 use cweb_names::{NameId, NameKind};
 use std::alloc::{AllocError, Global};
 use std::marker::Model;
@@ -16,7 +16,7 @@ use std::marker::Model;
 /// Finished parts: all tokens in one list, and the range of each part in it.
 #[derive(Drop)]
 pub struct ClosedParts {
-    pub(crate) tokens: ClosedTokens,
+    pub(crate) tokens: TokenList,
     pub(crate) ranges: Vec<PartRange>,
 }
 
@@ -28,9 +28,9 @@ impl Model for ClosedParts {
 
     ghost use Rattle.cweb_store.specs.inner.PartRanges.{closed_in, IsWhole};
 
-    ghost view = { λ s. map (closed_in s.tokens) s.ranges.items };
+    ghost view = { λ s. map (closed_in s.tokens.tokens) s.ranges.items };
 
-    ghost invariant = { λ s. IsWhole s.tokens s.ranges.items };
+    ghost invariant = { λ s. IsWhole s.tokens.tokens s.ranges.items };
 }
 
 impl ClosedParts {
@@ -44,9 +44,9 @@ impl ClosedParts {
 
     /// The tokens of all parts.
     #[inline(always)]
-    pub fn tokens(&self) -> &ClosedTokens
-        ensures tokens { result.now ≡ all_tokens self.now }
-        ensures few { length result.now < too_many }
+    pub fn tokens(&self) -> &TokenList
+        ensures tokens { result.now.tokens ≡ all_tokens self.now }
+        ensures few { length result.now.tokens < too_many }
     {
         &self.tokens
     }

@@ -154,7 +154,6 @@ impl PartList {
             mut ranges,
             current,
         } = self;
-        let tokens = tokens.close();
         let Some(current) = current else {
             return ClosedParts { tokens, ranges };
         };

@@ -20,7 +20,7 @@ impl Store {
         self.wanted(Wanted::Program)
     }
 
-    /// The parts of a name. The iterator is empty exactly if the name has no part.
+    /// The parts of a name, in order: its C text. The iterator is empty exactly if the name has no part.
     pub fn parts(&self, name: NameId) -> Parts<'_>
         ensures ranges { AreRangesOf (is_of (spec.resolutions self.now.occurrences) name)
             self.now.parts result }

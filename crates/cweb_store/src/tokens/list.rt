@@ -1,4 +1,4 @@
-// Tokens while they are added.
+// A list of tokens.
 
 ghost use Rattle.std.specs.Prelude.{◌≡◌, ◌<◌, ◌+◌, ◌++◌, ◌∷◌, [], filter, length, take, Some};
 ghost use Rattle.std.specs.Prelude.{slice_get, OnOk, OnErr};
@@ -6,7 +6,6 @@ ghost use Rattle.cweb_names.specs.surface.Names.{too_many};
 ghost use Rattle.cweb_store.specs.inner.PartRanges.{has_string};
 
 use crate::tokens::Token;
-use crate::tokens::closed::ClosedTokens;
 use crate::tokens::records::{Record, first_place, record_of, token_at};
 use crate::tokens::token_index::TokenIndex;
 use cweb_files::Place;
@@ -17,10 +16,10 @@ use std::marker::Model;
 /// Tokens as records, their strings, the places of the Marks, in order, and an index of uses and Defs.
 #[derive(Drop)]
 pub struct TokenList {
-    strings: StringTable,
-    records: Vec<Record>,
+    pub(crate) strings: StringTable,
+    pub(crate) records: Vec<Record>,
     places: Vec<Place>,
-    token_index: TokenIndex,
+    pub(crate) token_index: TokenIndex,
 }
 
 impl Model for TokenList {
@@ -116,23 +115,5 @@ impl TokenList {
         self.places.truncate(places);
         self.records.truncate(count);
         self.token_index.truncate(count);
-    }
-
-    /// The finished tokens.
-    pub fn close(self) -> ClosedTokens
-        ensures { result ≡ self.tokens }
-    {
-        let TokenList {
-            strings,
-            records,
-            places,
-            token_index,
-        } = self;
-        ClosedTokens {
-            strings: strings.close(),
-            records,
-            places,
-            token_index,
-        }
     }
 }

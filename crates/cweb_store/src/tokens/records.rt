@@ -1,4 +1,4 @@
-// Tokens as records of 8 bytes. A record holds an index of its string, or of its place if it is a Mark.
+// Tokens as records of five bytes. A record holds an index of its string, or of its place if it is a Mark.
 
 ghost use Rattle.std.specs.Prelude.{◌≡◌, ◌<◌, ◌+◌, ℕ, length, Some, slice_get, IfOk, OnOk, OnErr};
 ghost use Rattle.cweb_names.specs.surface.Names.{too_many};
@@ -9,6 +9,7 @@ ghost use Rattle.cweb_store.specs.surface.Tokens.{token_model};
 
 use crate::tokens::Token;
 use crate::tokens::token_index::TokenIndex;
+use crate::tokens::unaligned::Unaligned;
 use cweb_files::Place;
 use cweb_names::NameRef;
 use cweb_texts::{StringList, StringTable};
@@ -17,23 +18,23 @@ use std::alloc::AllocError;
 /// A token whose string or place is stored elsewhere.
 #[derive(Clone, Copy)]
 pub enum Record {
-    Word(u32),
-    Number(u32),
-    Literal(u32),
-    Verbatim(u32),
-    Punct(u32),
+    Word(Unaligned),
+    Number(Unaligned),
+    Literal(Unaligned),
+    Verbatim(Unaligned),
+    Punct(Unaligned),
     Blank,
     Newline,
     Join,
     Defs,
-    Name(NameRef),
-    Head(u32),
-    Tail(u32),
-    Mark(u32),
+    Name(Unaligned),
+    Head(Unaligned),
+    Tail(Unaligned),
+    Mark(Unaligned),
 }
 
 // Records take most of a store's memory.
-const _: () = prove!(size_of::<Record>() == 8);
+const _: () = prove!(size_of::<Record>() == 5);
 
 /// The record of token `number`. Its string, its place or its index entry is stored. A refused call changes nothing.
 /// `reserve` and `push_reserved` are inlined here, which `push` is not.
@@ -56,11 +57,13 @@ pub fn record_of(
         × HasSameEntries token_index.old token_index.new) }
 {
     match token {
-        Token::Word(string) => Ok(Record::Word(strings.intern_word(string)?)),
-        Token::Number(string) => Ok(Record::Number(strings.intern_word(string)?)),
-        Token::Literal(string) => Ok(Record::Literal(strings.add_string(string)?)),
-        Token::Verbatim(string) => Ok(Record::Verbatim(strings.add_string(string)?)),
-        Token::Punct(string) => Ok(Record::Punct(strings.intern_punctuator(string)?)),
+        Token::Word(string) => Ok(Record::Word(Unaligned::of(strings.intern_word(string)?))),
+        Token::Number(string) => Ok(Record::Number(Unaligned::of(strings.intern_word(string)?))),
+        Token::Literal(string) => Ok(Record::Literal(Unaligned::of(strings.add_string(string)?))),
+        Token::Verbatim(string) => Ok(Record::Verbatim(Unaligned::of(strings.add_string(string)?))),
+        Token::Punct(string) => Ok(Record::Punct(Unaligned::of(strings.intern_punctuator(
+            string,
+        )?))),
         Token::Blank => Ok(Record::Blank),
         Token::Newline => Ok(Record::Newline),
         Token::Join => Ok(Record::Join),
@@ -72,15 +75,15 @@ pub fn record_of(
         Token::Name(name) => {
             token_index.uses.reserve(1)?;
             token_index.uses.push_reserved(number);
-            Ok(Record::Name(name))
+            Ok(Record::Name(Unaligned::of(name.0)))
         }
-        Token::Head(section) => Ok(Record::Head(section)),
-        Token::Tail(section) => Ok(Record::Tail(section)),
+        Token::Head(section) => Ok(Record::Head(Unaligned::of(section))),
+        Token::Tail(section) => Ok(Record::Tail(Unaligned::of(section))),
         Token::Mark(place) => {
             places.reserve(1)?;
             let number = places.len() as u32;
             places.push_reserved(place);
-            Ok(Record::Mark(number))
+            Ok(Record::Mark(Unaligned::of(number)))
         }
     }
 }
@@ -109,19 +112,19 @@ fn token_of_record<'a>(strings: &'a StringList, places: &[Place], item: Record) 
     ensures { token_model result ≡ token_of_record strings.now places.now item }
 {
     match item {
-        Record::Word(number) => Token::Word(strings.string(number as usize)),
-        Record::Number(number) => Token::Number(strings.string(number as usize)),
-        Record::Literal(number) => Token::Literal(strings.string(number as usize)),
-        Record::Verbatim(number) => Token::Verbatim(strings.string(number as usize)),
-        Record::Punct(number) => Token::Punct(strings.string(number as usize)),
+        Record::Word(number) => Token::Word(strings.string(number.get() as usize)),
+        Record::Number(number) => Token::Number(strings.string(number.get() as usize)),
+        Record::Literal(number) => Token::Literal(strings.string(number.get() as usize)),
+        Record::Verbatim(number) => Token::Verbatim(strings.string(number.get() as usize)),
+        Record::Punct(number) => Token::Punct(strings.string(number.get() as usize)),
         Record::Blank => Token::Blank,
         Record::Newline => Token::Newline,
         Record::Join => Token::Join,
         Record::Defs => Token::Defs,
-        Record::Name(name) => Token::Name(name),
-        Record::Head(section) => Token::Head(section),
-        Record::Tail(section) => Token::Tail(section),
-        Record::Mark(number) => Token::Mark(places[number as usize]),
+        Record::Name(name) => Token::Name(NameRef(name.get())),
+        Record::Head(section) => Token::Head(section.get()),
+        Record::Tail(section) => Token::Tail(section.get()),
+        Record::Mark(number) => Token::Mark(places[number.get() as usize]),
     }
 }
 
@@ -131,7 +134,7 @@ pub fn first_place(records: &[Record], all: usize) -> usize
 {
     for item in records {
         if let Record::Mark(number) = *item {
-            return number as usize;
+            return number.get() as usize;
         }
     }
     all

@@ -50,20 +50,20 @@ fn direct<'a>(strings: &StringSlices<'a>, item: Record) -> Option<TokenBytes<'a>
         ≡ direct_bytes (token_of_record strings.now [] item) }
 {
     match item {
-        Record::Word(number) => direct_word(strings, number as usize),
+        Record::Word(number) => direct_word(strings, number.get() as usize),
         Record::Number(number) => Some(TokenBytes {
-            string: strings.string(number as usize),
+            string: strings.string(number.get() as usize),
             edge: Edge::Number,
         }),
         Record::Literal(number) => Some(TokenBytes {
-            string: strings.string(number as usize),
+            string: strings.string(number.get() as usize),
             edge: Edge::Literal,
         }),
         Record::Verbatim(number) => Some(TokenBytes {
-            string: strings.string(number as usize),
+            string: strings.string(number.get() as usize),
             edge: Edge::Glue,
         }),
-        Record::Punct(number) => direct_punctuator(strings, number as usize),
+        Record::Punct(number) => direct_punctuator(strings, number.get() as usize),
         Record::Blank => Some(TokenBytes {
             string: b" ",
             edge: Edge::Blank,

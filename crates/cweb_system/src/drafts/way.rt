@@ -25,7 +25,7 @@ pub enum Way {
     Device(FileKey),
 }
 
-/// How an output of this name is written. A file that the run has read, or wrote under another name, is refused.
+/// How an output of this name is written. A folder, or a file that was read or written under another name, is refused.
 pub fn way_to<F: FileSystem>(fs: &F, name: &str, files: &RunFiles) -> Result<Way, FileFault>
     requires { HasFiles F.disk fs.now files.now.written.items }
     ensures read { OnDisk F.disk (λ see. (key : FileKey) →

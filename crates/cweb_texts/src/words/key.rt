@@ -27,7 +27,7 @@ const HASH_FACTOR: u64 = 0x9E37_79B9_7F4A_7C15;
 pub const KEY_BYTES: usize = 16;
 
 impl Key {
-    /// The key of a word.
+    /// The key of a word: its first bytes, or a hash if it is longer than 16, and its last bytes.
     #[inline(always)]
     pub fn of(word: &[u8]) -> Key
         ensures { result ≡ key_of word.now }

@@ -17,7 +17,7 @@ use Rattle.cweb_tools.specs.Tangle.{shown_by, TanglePromises}
 use Rattle.cweb_tools.specs.laws.RunEffects.{HasReadAll, LeavesFiles, tangle_files, tangle_status}
 use Rattle.cweb_files.specs.Files.{File}
 use Rattle.cweb_lines.specs.Events.{Event}
-use Rattle.cweb_log.specs.declared.shown.Shown.{Shown}
+use Rattle.cweb_log.specs.declared.options.Shown.{Shown}
 use Rattle.cweb_tools.specs.Depfile.{depfile, each_once}
 
 -- The name of the draft of an output, if one is open.

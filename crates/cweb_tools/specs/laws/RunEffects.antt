@@ -5,7 +5,7 @@ use Rattle.cweb_input.specs.declared.stop.Stop.{Stop}
 use Rattle.cweb_input.specs.declared.stop.Stop.TheVariants.{OutNotOpened, ReadFault, WriteFault, LogFault}
 use Rattle.cweb_log.specs.DeviceModels.{Devices, Logs}
 use Rattle.cweb_files.specs.Sinks.{SinkModel, appended}
-use Rattle.cweb_log.specs.declared.shown.Shown.{Shown}
+use Rattle.cweb_log.specs.declared.options.Shown.{Shown}
 use Rattle.cweb_tools.specs.Acts.{Act, acts_status, logged_items}
 use Rattle.cweb_tools.specs.Headline.{ActsKeepLimits, files_in, written_files, printed_bytes}
 use Rattle.cweb_tools.specs.Script.{TangleCourse, script}

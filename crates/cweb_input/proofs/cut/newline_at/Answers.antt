@@ -1,4 +1,4 @@
-use Rattle.cweb_input.proofs.Common.{◌≡◌, ◌++◌, ◌+◌, ◌-◌, ◌∙◌, [], ℕ, List, None, Some, ap, drop, length, sym, subst, take, arith, append_assoc, length-append, take-append-drop, append-nil, length-take, HasNoNewline, SplitsAt}
+use Rattle.cweb_input.proofs.Common.{◌≡◌, ◌++◌, ◌+◌, ◌-◌, ◌∙◌, [], ℕ, List, Some, ap, drop, length, sym, subst, take, arith, append_assoc, length-append, take-append-drop, append-nil, length-take, SplitsAt}
 use Rattle.cweb_input.proofs.Newlines.{newline_at-memchr, no_newline-append, splits_after}
 use Rattle.cweb_input.proofs.cut.newline_at.Goals as goal
 
@@ -50,7 +50,4 @@ returns-in-Some-memchr c =
     inv.2 (newline_at-memchr rest (Some at) c.in-Some-memchr.ensures))
 
 pub returns-in-None : goal.returns-in-None
-returns-in-None c =
-    let inv = c.runs.invariant in
-    let rest = c.runs.rest.now in
-    subst HasNoNewline (sym inv.1) (no_newline-append inv.0 rest inv.2 (newline_at-memchr rest None c.in-None.ensures))
+returns-in-None c = grind (arith, no_newline-append, newline_at-memchr)

@@ -1,5 +1,5 @@
 use Rattle.std.proofs.Common.{inr}
-use Rattle.cweb_input.proofs.Common.{Some, ◌≡◌, ◌<◌, ⊎_elim, cases_lt, HasNoNewline, ◌++◌, [], ℕ, List, sym, ◌∙◌, ap, subst, rules, refl, Err, append_assoc, err_from_is_err_and, bytes_left, buffered, IsLongerThan, TakesFromBuffer, TooLong, LINE_LENGTH}
+use Rattle.cweb_input.proofs.Common.{Some, ◌≡◌, ◌<◌, ⊎_elim, cases_lt, HasNoNewline, ◌++◌, [], ℕ, List, sym, ◌∙◌, ap, subst, rules, refl, Err, append_assoc, err_from_is_err_and, bytes_left, buffered, IsLongerThan, TakesFromBuffer, TooLong, LINE_LENGTH, arith}
 use Rattle.cweb_files.specs.Shelves.{ShelfContents}
 use Rattle.cweb_input.proofs.Newlines.{longer_more, none_buffered, taken_full, taken_more}
 use Rattle.cweb_input.proofs.cut.next_line.Given as given
@@ -10,8 +10,7 @@ use Rattle.cweb_input.proofs.cut.next_line.Goals.{In_ok-refill}
 so_far : (g : given.Over) (c : In_ok-refill g) (seen : ShelfContents g.row.S-R.Denot)
     → (g.S.Shelf.model c.args.shelf.now).contents ≡ Some seen
     → bytes_left seen.left c.args.source.now ≡ c.pieces.line.items ++ bytes_left seen.left c.refill.new.source
-so_far g c seen is = c.pieces.invariant.bytes seen is ∙ ap (λ (l : List ℕ). c.pieces.line.items ++ l)
-    (sym (c.in_ok-refill.ensures.same seen (ap (λ m. m.contents) c.pieces.invariant.same ∙ is)))
+so_far g c seen is = grind arith
 
 pub returns-in_err-take_buffered-clause-fails : goal.returns-in_err-take_buffered-clause-fails
 returns-in_err-take_buffered-clause-fails g c = record {

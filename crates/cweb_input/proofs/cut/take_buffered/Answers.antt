@@ -1,4 +1,4 @@
-use Rattle.cweb_input.proofs.Common.{◌≡◌, ◌++◌, [], ℕ, List, take, drop, ◌∙◌, ap, subst, take-append-drop, Err, append-nil, err_from_is_err_and, slice_range, IsLongerThan, TooLong, LINE_LENGTH}
+use Rattle.cweb_input.proofs.Common.{◌≡◌, ◌++◌, [], ℕ, List, take, drop, ◌∙◌, ap, subst, take-append-drop, Err, append-nil, err_from_is_err_and, slice_range, IsLongerThan, TooLong, LINE_LENGTH, arith}
 use Rattle.cweb_input.proofs.Newlines.{longer, after_newline}
 use Rattle.cweb_input.proofs.cut.take_buffered.Goals as goal
 
@@ -25,11 +25,4 @@ returns-in_err-extend-in-None-clause-too_long g c = λ none is.
     (longer LINE_LENGTH c.args.line.now.items bytes [] none c.in-None.ensures more)
 
 pub returns-in_ok-extend-in-Some-clause-taken : goal.returns-in_ok-extend-in-Some-clause-taken
-returns-in_ok-extend-in-Some-clause-taken g c =
-    let bytes = slice_range c.deref.result.now c.args.source.now.start c.args.source.now.end in (
-      take c.in-Some.at bytes,
-      c.in-Some.ensures.before,
-      rw (← c.deref.ensures.value) (after_newline c.deref.result.now c.args.source.now.start
-          c.args.source.now.end c.in-Some.at c.in-Some.ensures c.args.source.now.ordered),
-      c.in_ok-extend-in-Some.ensures.ok,
-    )
+returns-in_ok-extend-in-Some-clause-taken g c = grind (arith, after_newline)

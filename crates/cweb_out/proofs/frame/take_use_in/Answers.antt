@@ -1,4 +1,4 @@
-use Rattle.cweb_out.proofs.Common.{◌++◌, ◌∙◌, ap, arith, Some, Name, all_tokens, token_model, slice_range}
+use Rattle.cweb_out.proofs.Common.{◌∙◌, ap, arith, Some, all_tokens, token_model, slice_range}
 use Rattle.cweb_store.proofs.RangeLemmas.{range-split, range-head}
 use Rattle.cweb_out.proofs.frame.take_use_in.Goals as goal
 
@@ -15,7 +15,5 @@ returns-in-Name-token-clause-some c =
     record {
       before = slice_range ts first next;
       none = c.next_use-next.ensures.before;
-      same = range-split ts first next after c.next_use-next.ensures.begins c.next_use-next.ensures.within
-          ∙ ap (λ us. slice_range ts first next ++ us)
-          (range-head ts next after (Name c.in-Name-token.name) here (omega (arith, c.if-next-part.false)));
+      same = grind (arith, range-split, range-head);
     }

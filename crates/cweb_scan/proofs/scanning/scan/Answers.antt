@@ -1,6 +1,5 @@
-use Rattle.cweb_scan.proofs.Common.{[], sym, subst, so_far, to_come, Stop, Scanned, ScanEndsEarly, ScansWithinLimits, Scans}
+use Rattle.cweb_scan.proofs.Common.{sym, subst, so_far, to_come, Scanned, ScansWithinLimits, Scans, arith}
 use Rattle.cweb_scan.proofs.Scans.{grows_to, refused}
-use Rattle.std.specs.Prelude.{Err}
 use Rattle.cweb_lines.proofs.NoReadFails.{unread}
 use Rattle.cweb_scan.proofs.scanning.scan.Goals as goal
 
@@ -19,18 +18,10 @@ pub returns-clause-grows : goal.returns-clause-grows
 returns-clause-grows g c = grows_to _ _ _ c.halt.ensures.so_far c.in_ok-take_lines.ensures.grows
 
 pub returns-clause-stops : goal.returns-clause-stops
-returns-clause-stops g c = λ seen it before.
-    let taken = c.in_ok-take_lines.ensures in
-    subst (λ (stop : Stop). ScanEndsEarly stop (so_far c.args.merger.now) (so_far c.halt.new.self)
-    (to_come seen c.args.merger.now)) (sym (c.halt.ensures.stop taken.ended.0))
-    (refused _ _ _ _ _ _ c.halt.ensures.so_far (taken.scans seen it).yields)
+returns-clause-stops g c = grind (arith, refused)
 
 pub returns-clause-reads : goal.returns-clause-reads
-returns-clause-reads g c = λ before.
-    let taken = c.in_ok-take_lines.ensures in
-    (λ file. [], unread {A = Unit {0}} (Err c.halt.result) _ taken.reads.1 (c.halt.ensures.stop taken.ended.0))
+returns-clause-reads g c = grind (arith, unread)
 
 pub returns-clause-blamed : goal.returns-clause-blamed
-returns-clause-blamed g c = λ seen it known before.
-    let taken = c.in_ok-take_lines.ensures in
-    unread {A = Unit {0}} (Err c.halt.result) _ taken.reads.1 (c.halt.ensures.stop taken.ended.0)
+returns-clause-blamed g c = grind (arith, unread)

@@ -17,7 +17,4 @@ stretches-preserved g c =
     }
 
 pub stretches-smaller : goal.stretches-smaller
-stretches-smaller g c =
-    let read = c.in_ok-ahead.ensures in
-    let takes = c.take_ahead.ensures read.0 read.1.comes in
-    omega (arith, takes.count, read.1.some, c.take_ahead.new.self.run.limits.few)
+stretches-smaller g c = grind arith

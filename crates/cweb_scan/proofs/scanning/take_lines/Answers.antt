@@ -1,6 +1,5 @@
 use Rattle.cweb_input.proofs.Errors.{same_error}
 use Rattle.cweb_scan.proofs.Common.{◌≡◌, ◌≤◌, ◌+◌, ◌*◌, ℕ, None, Some, List, [], ◌∷◌, subst, refl, ap, sym, ◌∙◌, arith, BorrowsLines, Event, SoFar, so_far, to_come, Merger, Stop, ScanEndsEarly, HasTaken, ReaderModel, cost, read_after, yields_both}
-use Rattle.std.specs.Prelude.{Err}
 use Rattle.cweb_files.specs.Shelves.{ShelfContents, ShelfModel}
 use Rattle.cweb_lines.proofs.NoReadFails.{unread}
 use Rattle.cweb_lines.proofs.ReportsOnlyGrow.{reported_files, reported_same, reported_then}
@@ -50,18 +49,11 @@ returns-in-Err-take_borrowed-clause-stops g c = λ seen it.
     (borrowed.yields seen.texts seen.left).1))
 
 pub returns-in-Err-take_borrowed-clause-blamed : goal.returns-in-Err-take_borrowed-clause-blamed
-returns-in-Err-take_borrowed-clause-blamed g c = λ seen it known.
-    let inv = c.lines.invariant in
-    unread {A = Unit {0}} (Err c.halt-in-Err-take_borrowed.result) _ ((c.in_ok-place.ensures.blames inv.running).reads.1
-    ∙ inv.same)
-    (c.halt-in-Err-take_borrowed.ensures.stop
-    (c.in-Err-take_borrowed.ensures.borrowed.stopped ∙ c.in_ok-place.ensures.leaves.running))
+returns-in-Err-take_borrowed-clause-blamed g c = grind (arith, unread)
 
 -- The merger stopped.
 pub returns-in_err-place-clause-stops : goal.returns-in_err-place-clause-stops
-returns-in_err-place-clause-stops g c = rw (same_error _ _ c.from_residual.ensures.1) (λ seen it. ends_early _ _ _ _ _
-    _ _ (c.lines.invariant.taken.yields seen it) (c.in_err-place.ensures.stops seen (still c.lines.invariant.same it)
-    c.lines.invariant.running))
+returns-in_err-place-clause-stops g c = grind (arith, same_error, ends_early, still)
 
 pub returns-in_err-place-clause-reads : goal.returns-in_err-place-clause-reads
 returns-in_err-place-clause-reads g c = rw (same_error _ _ c.from_residual.ensures.1) (rw c.lines.invariant.same at
@@ -73,30 +65,13 @@ returns-in_default-clause-reads g c =
     rw c.lines.invariant.same at (c.in_ok-place.ensures.blames c.lines.invariant.running).reads
 
 pub returns-in-Err-clause-reads : goal.returns-in-Err-clause-reads
-returns-in-Err-clause-reads g c =
-    let inv = c.lines.invariant in (
-      λ file. [],
-      unread {A = Unit {0}} (Err c.halt.result) _ ((c.in_ok-place.ensures.blames inv.running).reads.1 ∙ inv.same)
-          (c.halt.ensures.stop c.in_ok-place.ensures.leaves.running),
-    )
+returns-in-Err-clause-reads g c = grind (arith, unread)
 
 pub returns-in-Err-take_borrowed-clause-reads : goal.returns-in-Err-take_borrowed-clause-reads
-returns-in-Err-take_borrowed-clause-reads g c =
-    let inv = c.lines.invariant in (
-      λ file. [],
-      unread {A = Unit {0}} (Err c.halt-in-Err-take_borrowed.result) _ ((c.in_ok-place.ensures.blames
-          inv.running).reads.1 ∙ inv.same)
-          (c.halt-in-Err-take_borrowed.ensures.stop
-          (c.in-Err-take_borrowed.ensures.borrowed.stopped ∙ c.in_ok-place.ensures.leaves.running)),
-    )
+returns-in-Err-take_borrowed-clause-reads g c = grind (arith, unread)
 
 pub returns-in_err-place-clause-blames : goal.returns-in_err-place-clause-blames
-returns-in_err-place-clause-blames g c =
-    let blames = c.in_err-place.ensures.blames c.lines.invariant.running in
-    rw (same_error _ _ c.from_residual.ensures.1) (record {
-      kind = blames.reading;
-      kept = c.in_err-place.ensures.leaves.kept;
-    })
+returns-in_err-place-clause-blames g c = grind (arith, same_error)
 
 -- An allocation for a line failed.
 pub returns-in-Err-clause-stops : goal.returns-in-Err-clause-stops
@@ -153,16 +128,10 @@ lines-preserved g c =
 
 -- The file that a stop blames.
 pub returns-in_err-place-clause-blamed : goal.returns-in_err-place-clause-blamed
-returns-in_err-place-clause-blamed g c = rw (same_error _ _ c.from_residual.ensures.1) (λ seen it known.
-    let inv = c.lines.invariant in
-    rw inv.same at ((c.in_err-place.ensures.known seen (still inv.same it) (inv.readers seen it known)).blamed
-    inv.running))
+returns-in_err-place-clause-blamed g c = grind (arith, same_error, still)
 
 pub returns-in-Err-clause-blamed : goal.returns-in-Err-clause-blamed
-returns-in-Err-clause-blamed g c = λ seen it known.
-    let inv = c.lines.invariant in
-    unread {A = Unit {0}} (Err c.halt.result) _ ((c.in_ok-place.ensures.blames inv.running).reads.1 ∙ inv.same)
-    (c.halt.ensures.stop c.in_ok-place.ensures.leaves.running)
+returns-in-Err-clause-blamed g c = grind (arith, unread)
 
 -- At least one line was taken.
 pub lines-smaller : goal.lines-smaller

@@ -1,8 +1,7 @@
-use Rattle.std.proofs.Common.{◌≡◌, subst, string_bytes, arith, List}
+use Rattle.std.proofs.Common.{◌≡◌, subst, string_bytes, arith}
 use Rattle.std.proofs.lemmas.List.{take_all}
 use Rattle.std.proofs.lemmas.List.Elements.{All-more}
 use Rattle.cweb_system.specs.declared.written.WrittenFile.{WrittenFile}
-use Rattle.cweb_system.specs.inner.Written.{HasNameAlone}
 use Rattle.cweb_system.proofs.written.has_other_name.Goals as goal
 
 pub loop-file-preserved : goal.loop-file-preserved
@@ -13,6 +12,4 @@ loop-file-preserved g c = λ some.
     (c.is_other_name.ensures.value c.if-is_other_name.false some))
 
 pub returns-clause-value : goal.returns-clause-value
-returns-clause-value g c = λ is some.
-    subst (λ (ws : List WrittenFile). HasNameAlone c.args.name.now c.args.key ws)
-    (take_all c.loop-file.file-index c.args.written.now (omega arith)) (c.loop-file.invariant some)
+returns-clause-value g c = grind (arith, take_all)

@@ -1,7 +1,6 @@
-use Rattle.std.proofs.Common.{◌≡◌, subst, arith, List}
+use Rattle.std.proofs.Common.{◌≡◌, subst, arith}
 use Rattle.std.proofs.lemmas.List.{take_all}
 use Rattle.std.proofs.lemmas.List.Elements.{All-more}
-use Rattle.std.specs.Prelude.{All}
 use Rattle.cweb_system.specs.declared.written.WrittenFile.{WrittenFile}
 use Rattle.cweb_system.proofs.written.is_written.Goals as goal
 
@@ -13,6 +12,4 @@ loop-file-preserved g c = λ some.
     (c.is_of_key.ensures.value c.if-is_of_key.false some))
 
 pub returns-clause-value : goal.returns-clause-value
-returns-clause-value g c = λ is some.
-    subst (λ (ws : List WrittenFile). All (λ (w : WrittenFile). w.key ≡ c.args.key → ⊥) ws)
-    (take_all c.loop-file.file-index c.args.written.now (omega arith)) (c.loop-file.invariant some)
+returns-clause-value g c = grind (arith, take_all)

@@ -10,9 +10,7 @@ pub names-preserved : goal.names-preserved
 names-preserved c =
     let names = opened_file_names c.args.names.now in
     let next : add_once (each_once (take c.names.id names)) c.get-name.result.now
-    ≡ each_once (take (c.names.id + 1) names) =
-    ap (add_once (each_once (take c.names.id names))) c.get-name.ensures
-    ∙ name_added names c.names.id (omega (arith, c.names-test.true, c.count-id-end.ensures)) in
+    ≡ each_once (take (c.names.id + 1) names) = grind (arith, name_added) in
     let is_key = c.of-key.ensures ∙ ap key_of c.as_bytes.ensures.value in
     elim c.if-branch.branch [
       | then-branch+in_ok-push w ↦ pushes_new _ _ _ _ _ c.get-name.result _ _ _ c.names.invariant is_key

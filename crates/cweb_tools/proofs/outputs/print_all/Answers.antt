@@ -1,4 +1,4 @@
-use Rattle.cweb_tools.proofs.Common.{rules, arith, common_steps, ap, SinkModel}
+use Rattle.cweb_tools.proofs.Common.{rules, arith, common_steps}
 use Rattle.cweb_tools.proofs.Prints.{end_failed, next_named, on_err, prints_all, prints_prefix, prints_more, prints_until}
 use Rattle.cweb_tools.proofs.outputs.print_all.Goals as goal
 
@@ -8,18 +8,13 @@ append-requires-in-tokens-clause-named g c = next_named (prints_prefix {now = c.
     c.append.ensures.setting c.append.ensures.prints) _ _ c.requires.left c.in-Some.ensures.yields
 
 pub append-requires-in-tokens-clause-count : goal.append-requires-in-tokens-clause-count
-append-requires-in-tokens-clause-count g c =
-    omega (arith, ap (λ (sink : SinkModel). sink.failed) c.tokens.invariant.wrote, c.requires.count)
+append-requires-in-tokens-clause-count g c = grind arith
 
 pub finish-requires : goal.finish-requires
-finish-requires g c =
-    omega (arith, ap (λ (sink : SinkModel). sink.failed) c.tokens.invariant.wrote, c.requires.count)
+finish-requires g c = grind arith
 
 pub returns-in_err-append-clause-err : goal.returns-in_err-append-clause-err
-returns-in_err-append-clause-err g c = on_err c.from_residual.result
-    (prints_until _ _ (prints_prefix {now = c.append.new.self} c.tokens.invariant
-    (record { store = c.append.ensures.store; plan = c.append.ensures.plan; valid = c.append.ensures.valid })
-    c.append.ensures.setting c.append.ensures.prints) c.in_err-append.ensures.prints.wrote)
+returns-in_err-append-clause-err g c = grind (arith, on_err, prints_until, prints_prefix)
 
 pub returns-clause-prints : goal.returns-clause-prints
 returns-clause-prints g c = prints_all _ c.finish.new.buffer.bytes c.finish.result
@@ -29,10 +24,7 @@ returns-clause-prints g c = prints_all _ c.finish.new.buffer.bytes c.finish.resu
     c.in_default.ensures.yields.0 c.finish.ensures.ends c.finish.ensures.empty
 
 pub returns-clause-err : goal.returns-clause-err
-returns-clause-err g c = end_failed _ c.finish.new.buffer.bytes c.finish.result
-    (prints_prefix {now = c.append.new.self} c.tokens.invariant
-    (record { store = c.append.ensures.store; plan = c.append.ensures.plan; valid = c.append.ensures.valid })
-    c.append.ensures.setting c.append.ensures.prints) c.finish.ensures.ends
+returns-clause-err g c = grind (arith, end_failed, prints_prefix)
 
 pub tokens-preserved : goal.tokens-preserved
 tokens-preserved g c =

@@ -1,4 +1,4 @@
-use Rattle.cweb_tools.proofs.Common.{◌<◌, ◌≤◌, [], List, length, arith, None, Ok, Err, opened_file_names, Output, output_file}
+use Rattle.cweb_tools.proofs.Common.{◌<◌, [], List, length, arith, None, Ok, Err, opened_file_names, Output, output_file}
 use Rattle.cweb_tools.proofs.Doing.{bins_counted, does_in, does_none, does_on, logs_counted}
 use Rattle.cweb_tools.proofs.OutputActs.{acts_all, acts_at, acts_more}
 use Rattle.cweb_tools.proofs.ReadyExpanders.{output_on, stays, stays_on}
@@ -8,10 +8,7 @@ abbrev no_output : Output
 no_output = record { name = []; root = None }
 
 pub write_output-requires-clause-counts : goal.write_output-requires-clause-counts
-write_output-requires-clause-counts g c = record {
-  out = omega (arith, bins_counted c.outputs.invariant.does, c.requires.counts.out);
-  log = omega (arith, logs_counted c.outputs.invariant.does, c.requires.counts.log);
-}
+write_output-requires-clause-counts g c = grind (arith, bins_counted, logs_counted)
 
 pub returns-in-Err-clause-does : goal.returns-in-Err-clause-does
 returns-in-Err-clause-does g c =
@@ -37,11 +34,7 @@ outputs-preserved g c =
     }
 
 pub returns-clause-does : goal.returns-clause-does
-returns-clause-does g c =
-    let outs : List Output = c.args.expander.now.plan.now.outputs in
-    let all : length outs ≤ c.outputs.output = omega (arith, c.outputs-test.false, c.outputs-output-end.ensures) in
-    rw (acts_all (output_file c.args.expander.now.store.now (opened_file_names c.args.names.now))
-    c.args.progress outs c.outputs.output all) at c.outputs.invariant.does
+returns-clause-does g c = grind (arith, acts_all)
 
 pub outputs-init : goal.outputs-init
 outputs-init g c = record { stays = stays c.requires.ready; does = λ shelf. does_none }

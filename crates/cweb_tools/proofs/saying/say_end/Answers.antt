@@ -1,4 +1,4 @@
-use Rattle.cweb_tools.proofs.Common.{◌≡◌, length, ap, ◌∙◌, arith, scanned_model}
+use Rattle.cweb_tools.proofs.Common.{◌≡◌, arith, scanned_model}
 use Rattle.cweb_tools.specs.Tangle.{numbers_of}
 use Rattle.cweb_tools.proofs.Doing.{log_counted, does_on, log_fails}
 use Rattle.cweb_tools.proofs.DoingFiles.{counts_on}
@@ -9,8 +9,7 @@ use Rattle.cweb_tools.proofs.saying.say_end.Goals.{After-say}
 
 macros : (g : given.Over) (c : After-say g) → c.count_parts.result
     ≡ (numbers_of (scanned_model c.args.scanned.now)).macros
-macros g c = c.count_parts.ensures ∙ ap length c.macros.ensures.ranges.numbers
-    ∙ macros_counted c.args.scanned.now.store.parts
+macros g c = grind (arith, macros_counted)
 
 pub returns-in_err-say : goal.returns-in_err-say
 returns-in_err-say g c = log_fails c.in_err-say.field-0.0 _ _

@@ -1,4 +1,4 @@
-use Rattle.cweb_tools.proofs.Common.{◌≡◌, List, ℕ, refl, sym, ◌∙◌, ap, option_copied, World, Stop, contents_of, so_far, scanned_model, subject, OptionsModel, options_of, failed_reads, world_of}
+use Rattle.cweb_tools.proofs.Common.{◌≡◌, List, ℕ, refl, sym, ◌∙◌, ap, option_copied, World, Stop, contents_of, so_far, scanned_model, subject, OptionsModel, options_of, failed_reads, world_of, arith}
 use Rattle.cweb_tools.proofs.Carried.{left_by, observed}
 use Rattle.cweb_tools.proofs.Broken.{shelf_after}
 use Rattle.cweb_tools.proofs.ReadingExits.{read_stops, read_whole}
@@ -27,10 +27,7 @@ returns-in-Err-scan-clause-stops g c =
     let read = c.in-Err-scan.ensures in
     let stop : Stop = c.in-Err-scan.stop in
     let left : failed_reads (g.S.Shelf.model c.scan.new.shelf)
-    ≡ shelf_after stop (subject (so_far c.scan.new.merger).names stop) (failed_reads old) =
-    left_by (Unit {0}) stop (so_far c.scan.new.merger).names old _ (rw begun.same at (read.reads begun.running))
-    (λ seen it. rw begun.same
-    at (read.blamed seen (ap (λ m. m.contents) begun.same ∙ it) (begun.readers seen it) begun.running)) in
+    ≡ shelf_after stop (subject (so_far c.scan.new.merger).names stop) (failed_reads old) = grind (arith, left_by) in
     λ later out. read_stops later args world _ _ (failed_reads old) (failed_reads
     (g.S.Shelf.model c.scan.new.shelf)) out
     (g.L.Sink.model c.args.log.now) _ _ _ _

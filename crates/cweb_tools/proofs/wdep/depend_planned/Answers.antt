@@ -1,5 +1,4 @@
-use Rattle.cweb_tools.proofs.Common.{◌≡◌, refl, sym, ◌∙◌, ap, arith, ◌==◌, if◌then◌else◌, ℕ, List, reserves, files_of, plan_made, dependencies}
-use Rattle.cweb_tools.specs.Depfile.{depfile, each_once}
+use Rattle.cweb_tools.proofs.Common.{◌≡◌, refl, ◌∙◌, ap, arith, ◌==◌, if◌then◌else◌, ℕ, List, reserves, files_of, plan_made, dependencies}
 use Rattle.cweb_tools.proofs.Doing.{ends_done, ends_halted, ends_on, log_counted}
 use Rattle.cweb_tools.proofs.DoingFiles.{does_reserve, log_halts, memory_halts}
 use Rattle.cweb_tools.proofs.Printing.{printed_prefix, printed_whole, target_names_among}
@@ -23,9 +22,7 @@ returns-in-Err-write_all g c =
     let files : List (List ℕ) = files_of c.args.web in
     let text : c.as_slice.result.now
     ≡ dependencies c.args.targets files (plan_made c.args.web.scanned.now.store files c.args.plan.now) =
-    c.as_slice.ensures.value ∙ c.in-Ok.ensures
-    ∙ ap (λ (names : List (List ℕ)). depfile names (each_once files))
-    (sym (target_names_among c.args.web.scanned.now.store files c.args.targets c.args.plan.now.outputs)) in
+    grind (arith, target_names_among) in
     λ shelf. ends_on ((rw c.no_text.ensures at c.in_default.ensures) shelf _) (ends_on does_reserve
     (ends_halted (rw text at (printed_prefix c.in-Err-write_all.ensures.wrote) shelf _)
     (record { others = refl; log = c.log_stop-in-Err-write_all.ensures.logs })
@@ -36,9 +33,7 @@ returns g c =
     let files : List (List ℕ) = files_of c.args.web in
     let text : c.as_slice.result.now
     ≡ dependencies c.args.targets files (plan_made c.args.web.scanned.now.store files c.args.plan.now) =
-    c.as_slice.ensures.value ∙ c.in-Ok.ensures
-    ∙ ap (λ (names : List (List ℕ)). depfile names (each_once files))
-    (sym (target_names_among c.args.web.scanned.now.store files c.args.targets c.args.plan.now.outputs)) in
+    grind (arith, target_names_among) in
     λ shelf. ends_on ((rw c.no_text.ensures at c.in_default.ensures) shelf _) (ends_on does_reserve
     (ends_done (rw text at (printed_whole _ (g.W.Sink.model c.args.out.now)
     c.in_default-write_all.ensures.wrote) shelf _)

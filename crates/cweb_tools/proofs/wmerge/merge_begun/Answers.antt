@@ -1,4 +1,4 @@
-use Rattle.cweb_tools.proofs.Common.{◌≡◌, [], List, ℕ, sym, ◌∙◌, ap, Event, Stop, contents_of, so_far, subject, written_lines, emitted_lines, failed_reads, written, SinkModel}
+use Rattle.cweb_tools.proofs.Common.{◌≡◌, [], List, ℕ, sym, ◌∙◌, ap, Event, Stop, contents_of, so_far, subject, written_lines, emitted_lines, failed_reads, written, SinkModel, arith}
 use Rattle.std.specs.Option.{is_some}
 use Rattle.cweb_lines.specs.surface.Writing.{Writes}
 use Rattle.cweb_tools.proofs.Carried.{left_by, observed}
@@ -39,10 +39,8 @@ returns-in-Err g c = λ names world found changes begun.
     let old = failed_reads model in
     let new = failed_reads (g.S.Shelf.model c.write_merged_in_chunks.new.shelf) in
     let opened = (so_far c.write_merged_in_chunks.new.merger).names in
-    let left : new ≡ shelf_after stop (subject opened stop) old = left_by (Unit {0}) stop opened model _
-    (wrote.reads running) (λ seen it. (wrote.known seen it (begun.known seen it)).blamed running) in
-    let stays : is_some new.blamed ≡ is_some old.blamed =
-    ap (λ reads. is_some reads.blamed) left ∙ stays_known stop (subject opened stop) old in
+    let left : new ≡ shelf_after stop (subject opened stop) old = grind (arith, left_by) in
+    let stays : is_some new.blamed ≡ is_some old.blamed = grind (arith, stays_known) in
     halted_early world names found changes old new (out_of old (g.W.Sink.model c.args.out.now))
     (out_of new (g.W.Sink.model c.write_merged_in_chunks.new.out))
     (g.L.Sink.model c.args.log.now) (g.L.Sink.model c.log_stop.new.log) _ _ _

@@ -1,4 +1,4 @@
-use Rattle.cweb_tools.proofs.Common.{Some, option_copied, sym, ◌∙◌, ap, subst, World, FailedReads, SinkModel, Devices, at, devices, failed_reads, EndsMerge, WebNames, merge_course, contents_of, world_of}
+use Rattle.cweb_tools.proofs.Common.{Some, option_copied, sym, ap, subst, World, FailedReads, SinkModel, at, failed_reads, EndsMerge, WebNames, merge_course, contents_of, world_of, arith}
 use Rattle.cweb_log.specs.inner.LogText.{merge_word_names}
 use Rattle.cweb_tools.proofs.Carried.{observed}
 use Rattle.cweb_tools.proofs.MergeStarts.{start_stopped}
@@ -23,19 +23,4 @@ returns-in-Err g c =
     (rw (c.start_subject.ensures, c.as_str-in-Err.ensures.value, c.change-in-Err.ensures) at c.log_stop.ensures.logs))
 
 pub returns-in-Ok : goal.returns-in-Ok
-returns-in-Ok g c =
-    let names : WebNames = merge_word_names c.args.args.now in
-    let begun = c.in-Ok.ensures in
-    let now = g.S.Shelf.model c.start.new.shelf in
-    let out : SinkModel = g.W.Sink.model c.args.out.now in
-    let log : SinkModel = g.L.Sink.model c.args.log.now in
-    let after : Devices = devices g.S.Shelf g.W.Sink g.L.Sink c.merge_begun.new.shelf c.merge_begun.new.out
-    c.merge_begun.new.log in
-    subst (λ shelf. EndsMerge (Some names)
-    (merge_course (world_of (contents_of shelf).texts (option_copied c.args.inputs)) (Some names))
-    (at (failed_reads shelf) out log) after c.merge_begun.result) begun.same
-    (c.merge_begun.ensures names (world_of (contents_of now).texts (option_copied c.args.inputs)) _ _ (record {
-      begins = λ some. rw (c.as_str.ensures.value, c.second.ensures, c.change.ensures, c.folder.ensures)
-          at (begun.begins (contents_of now) (ap (λ m. m.contents) (sym begun.same) ∙ observed now some));
-      known = λ seen it. begun.readers seen (ap (λ m. m.contents) (sym begun.same) ∙ it);
-    }))
+returns-in-Ok g c = grind (arith, observed)

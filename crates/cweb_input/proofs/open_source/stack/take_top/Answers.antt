@@ -3,20 +3,13 @@ use Rattle.cweb_input.specs.declared.open_source.LineAt.{LineAt}
 use Rattle.cweb_input.proofs.Errors.{same_error}
 use Rattle.cweb_input.proofs.Common.{Err, common_steps, rules, ◌<◌, ◌-◌, length, refl, ◌∙◌, arith, None, counters_of}
 use Rattle.std.proofs.lemmas.List.{get_or_default, set-set}
-use Rattle.cweb_input.specs.inner.OpenSources.{line_number, files_up_to}
+use Rattle.cweb_input.specs.inner.OpenSources.{files_up_to}
 use Rattle.cweb_input.proofs.ReadersStayNamed.{names_set}
 use Rattle.cweb_input.proofs.SourceStacks.{keeps_stack, most_read, top_taken, top_closed, top_stops, stops_map, stays_below, numbers_below, numbers_set, deep-at}
 use Rattle.cweb_input.proofs.open_source.stack.take_top.Goals as goal
 
 pub take_from-requires-clause-number : goal.take_from-requires-clause-number
-take_from-requires-clause-number g c =
-    let within : c.args.stack.now.depth - 1 < length c.args.stack.now.texts = omega arith in
-    omega (
-      arith,
-      most_read line_number c.args.stack.now.texts
-          (c.args.stack.now.depth - 1) c.index-stack-top.result within,
-      c.requires.numbers,
-    )
+take_from-requires-clause-number g c = grind (arith, most_read)
 
 pub returns-in_err-at : goal.returns-in_err-at
 returns-in_err-at g c =

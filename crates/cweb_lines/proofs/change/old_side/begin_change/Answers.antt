@@ -1,13 +1,12 @@
 use Rattle.cweb_input.proofs.Errors.{same_error}
 use Rattle.cweb_lines.proofs.NoReadFails.{reads_reported, reads_set, reads_then}
-use Rattle.cweb_lines.proofs.Common.{rules, refl, ap, counters_of, opened_file_names}
+use Rattle.cweb_lines.proofs.Common.{rules, refl, ap, counters_of, opened_file_names, arith}
 use Rattle.cweb_lines.proofs.OldSideFaults.{closes_all, closes_some}
 use Rattle.cweb_lines.proofs.AddedEvents.{prefix_more}
 use Rattle.cweb_lines.proofs.change.old_side.begin_change.Goals as goal
 
 pub returns-in_err-replaced-clause-reported : goal.returns-in_err-replaced-clause-reported
-returns-in_err-replaced-clause-reported g c = rw (same_error _ _ c.from_residual.ensures.1) (λ seen it. prefix_more _
-    (c.in_err-replaced.ensures.reported seen it))
+returns-in_err-replaced-clause-reported g c = grind (arith, same_error, prefix_more)
 
 pub returns-in_err-close-clause-reported : goal.returns-in_err-close-clause-reported
 returns-in_err-close-clause-reported g c = rw (same_error _ _ c.from_residual-in_err-close.ensures.1) (λ seen it.

@@ -1,5 +1,5 @@
 use Rattle.cweb_input.proofs.Errors.{same_error}
-use Rattle.cweb_lines.proofs.Common.{rules, ◌≡◌, [], ℕ, List, Vec, Global, Some, refl, ap, sym, subst, ◌∙◌, change_code, counters_of, Thing, change_lines, so_far_of, opened_file_names, lines_at, things_above, StopsFor, TopStops}
+use Rattle.cweb_lines.proofs.Common.{rules, ◌≡◌, [], ℕ, List, Vec, Global, Some, refl, ap, sym, subst, ◌∙◌, change_code, counters_of, Thing, change_lines, so_far_of, opened_file_names, lines_at, things_above, StopsFor, TopStops, arith}
 use Rattle.cweb_lines.specs.declared.change.code.Code.TheVariants.{NewSide as new_side}
 use Rattle.cweb_lines.proofs.ReportsOnlyGrow.{took_faults, took_names}
 use Rattle.cweb_lines.proofs.NoReadFails.{Quiet, quiet_same, reads_reported, reads_set, reads_then, still_seen}
@@ -28,10 +28,7 @@ raws : (g : given.Over) (c : In_ok-at g) (left : g.row.S-R.Denot → List ℕ)
 raws g c left = λ i. things_above left 0 (c.in_ok-at.ensures.stack i) []
 
 pub returns-in_err-at-clause-stops : goal.returns-in_err-at-clause-stops
-returns-in_err-at-clause-stops g c = rw (same_error _ _ c.from_residual.ensures.1) (λ seen it. replaces_ends _
-    c.lines.so_far _ _ _ _ (c.lines.invariant.replaces seen it) c.in_err-at.field-0.0 (so_far_of c.take_change.new.run)
-    (reported_stays c.lines.run _ c.in_err-at.ensures.takes.only c.in_err-at.ensures.takes.answers.counted)
-    (c.in_err-at.ensures.stops seen (still_seen c.lines.invariant.quiet it)))
+returns-in_err-at-clause-stops g c = grind (arith, same_error, replaces_ends, reported_stays, still_seen)
 
 pub returns-in_err-so_far-in-None-clause-stops : goal.returns-in_err-so_far-in-None-clause-stops
 returns-in_err-so_far-in-None-clause-stops g c = rw (same_error _ _ c.from_residual-in_err-so_far-in-None.ensures.1) (λ

@@ -1,6 +1,5 @@
 use Rattle.cweb_input.proofs.Errors.{same_error}
-use Rattle.cweb_lines.proofs.Common.{rules, ◌≡◌, ℕ, [], ◌∷◌, ◌++◌, List, Vec, Global, None, refl, ap, sym, subst, ◌∙◌, sought, counters_of, SourceLine, change_lines, so_far_of, opened_file_names, Searched, SeeksTo, LooksInPart, reported_faults, lines_at, SourceFault, Waiting}
-use Rattle.cweb_input.proofs.Found.{OnOk-both}
+use Rattle.cweb_lines.proofs.Common.{rules, ◌≡◌, ℕ, [], ◌∷◌, List, Vec, Global, None, refl, ap, sym, subst, sought, counters_of, SourceLine, change_lines, so_far_of, opened_file_names, Searched, SeeksTo, LooksInPart, reported_faults, lines_at, SourceFault, Waiting, arith}
 use Rattle.cweb_lines.proofs.MergeReadersStayNamed.{knows_same}
 use Rattle.cweb_lines.proofs.ReportsOnlyGrow.{reported_if, took_faults, took_names}
 use Rattle.cweb_lines.proofs.NoReadFails.{Quiet, quiet_same, outcome_memory, reads_none, reads_reported, reads_set, reads_then, still_seen}
@@ -31,22 +30,15 @@ looked g c = reads_then (quiet g (goal.at.In_ok-looked g c).In_ok-at) (reads_rep
     c.in_ok-looked.ensures.looks.faults tt)
 
 pub returns-in_err-at-clause-stops : goal.returns-in_err-at-clause-stops
-returns-in_err-at-clause-stops g c = rw (same_error _ _ c.from_residual.ensures.1) (λ seen it.
-    let seeks = c.lines.invariant.seeks seen it in
-    let same = reported_stays c.lines.run _ c.in_err-at.ensures.takes.only c.in_err-at.ensures.takes.answers.counted in
-    record {
-      why = seeks_ends _ _ _ _ _ seeks c.in_err-at.field-0.0 (so_far_of c.take_change.new.run) same
-          (c.in_err-at.ensures.stops seen (still_seen c.lines.invariant.quiet it));
-      reported = tells_same _ _ _ _ same (tells_some _ _ _ _ _ seeks.yields);
-    })
+returns-in_err-at-clause-stops g c =
+    grind (arith, same_error, reported_stays, seeks_ends, still_seen, tells_same, tells_some)
 
 -- The faults of the last line that are reported in part.
 part : (g : given.Over) (c : In_err-looked g) (source : SourceLine) → source.line
     ≡ record { bytes = c.take_change.new.line.items; place = c.in-Some.at.place } → (lines : List SourceLine)
     → LooksInPart source (sought (source ∷ lines) c.lines.begin).events c.take_change.new.run.faults.items
     c.look_at.new.run.faults.items
-part g c source is lines = c.in_err-looked.ensures.err source
-    (is ∙ ap (λ (b : List ℕ). record { bytes = b; place = c.in-Some.at.place }) (sym c.deref.ensures.value)) lines
+part g c source is lines = grind arith
 
 pub returns-in_err-looked-clause-reads : goal.returns-in_err-looked-clause-reads
 returns-in_err-looked-clause-reads g c =
@@ -115,16 +107,7 @@ returns-in-Entry-clause-searched g c = λ seen it.
     seen.left c.take_change.new.run.change)) (sym c.swap.ensures.x_after) found)
 
 pub returns-in_default-clause-searched : goal.returns-in_default-clause-searched
-returns-in_default-clause-searched g c = λ seen it.
-    let taken = rw c.in_default.is at (c.in_ok-at.ensures.taken seen (still_seen c.lines.invariant.quiet it)) in
-    let counted = rw c.in_default.is at c.in_ok-at.ensures.takes.answers.counted in
-    OnOk-both c.end.result (λ reported done.
-    seeks_ended _ _ c.lines.begin _ (so_far_of c.lines.run) (c.lines.invariant.seeks seen it) taken.0 _ (reported ∙ ap
-    (λ (v : Vec SourceFault Global). v.items ++ reported_faults (sought [] c.lines.begin).events)
-    c.in_ok-at.ensures.takes.only.faults)
-    (ap opened_file_names (c.end.ensures.names ∙ c.in_ok-at.ensures.takes.only.names)) (ap counters_of
-    c.end.ensures.limits ∙ (λ i. record { lines = counted.0 i; bytes = counted.1 i })) _ done _ _)
-    c.end.ensures.reported c.end.ensures.stage
+returns-in_default-clause-searched g c = grind (arith, still_seen, seeks_ended)
 
 pub returns-in_default-clause-reads : goal.returns-in_default-clause-reads
 returns-in_default-clause-reads g c = reads_then (quiet g (goal.at.returns-in_default-clause-reads g c).In_ok-at)

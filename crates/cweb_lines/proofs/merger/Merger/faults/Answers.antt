@@ -3,9 +3,4 @@ use Rattle.cweb_lines.proofs.MergeStateEvents.{files_in-at}
 use Rattle.cweb_lines.proofs.merger.Merger.faults.Goals as goal
 
 pub returns-clause-known : goal.returns-clause-known
-returns-clause-known g c =
-    rw c.deref.ensures.value (λ k d lt. omega (
-      arith,
-      files_in-at c.args.self.now.run.faults.items k d lt,
-      c.args.self.now.run.faults_known,
-    ))
+returns-clause-known g c = grind (arith, files_in-at)

@@ -8,9 +8,9 @@ overflow_add-result g c =
     let in_place = c.requires.before in
     omega (
       arith,
-      few_after (pending_in c.args.stage c.args.first.now) c.args.text.now fits.0 c.args.before c.in_ok-next.next
+      few_after (pending_in c.args.stage c.args.first.now) c.args.text.now fits.0 c.args.before c.in-Some.next
           in_place.0
-          fits.1 fits.2 in_place.1 c.in_ok-next.ensures.line c.in_ok-next.ensures.one,
+          fits.1 fits.2 in_place.1 c.in-Some.ensures.line c.in-Some.ensures.one,
     )
 
 pub overflow_add-result-2 : goal.overflow_add-result-2
@@ -19,9 +19,9 @@ overflow_add-result-2 g c =
     let in_place = c.requires.before in
     omega (
       arith,
-      few_after (pending_in c.args.stage c.args.first.now) c.args.text.now fits.0 c.args.before c.in_ok-next.next
+      few_after (pending_in c.args.stage c.args.first.now) c.args.text.now fits.0 c.args.before c.in-Some.next
           in_place.0
-          fits.1 fits.2 in_place.1 c.in_ok-next.ensures.line c.in_ok-next.ensures.one,
+          fits.1 fits.2 in_place.1 c.in-Some.ensures.line c.in-Some.ensures.one,
     )
 
 pub then-requires : goal.then-requires
@@ -30,13 +30,11 @@ then-requires g c =
     let in_place = c.requires.before in
     omega (
       arith,
-      c.in_ok-next.ensures.one,
-      few_after (pending_in c.args.stage c.args.first.now) c.args.text.now fits.0 c.args.before c.in_ok-next.next
+      c.in-Some.ensures.one,
+      few_after (pending_in c.args.stage c.args.first.now) c.args.text.now fits.0 c.args.before c.in-Some.next
           in_place.0
-          fits.1 fits.2 in_place.1 c.in_ok-next.ensures.line c.in_ok-next.ensures.one,
+          fits.1 fits.2 in_place.1 c.in-Some.ensures.line c.in-Some.ensures.one,
     )
 
 pub returns : goal.returns
-returns g c = λ lines in_place. looks_after (pending_in c.args.stage c.args.first.now)
-    c.args.text.now c.args.before c.in_ok-next.next c.then.result lines in_place c.requires.joins
-    c.in_ok-next.ensures.line c.in_ok-next.ensures.one c.then.ensures.text c.then.ensures.end c.then.ensures.lines
+returns g c = grind (arith, looks_after)

@@ -1,39 +1,14 @@
-use Rattle.cweb_lines.proofs.Common.{[], counters_of, ◌≡◌, ◌+◌, ◌<◌, ◌-◌, ◌∙◌, None, ap, length, refl, sym, subst, arith, get_or-set_same, get_or_default, KeepsLevel, PassesSlot, IsStretchAt, buffer_of, sources_next, top_of, line_number, files_up_to}
+use Rattle.cweb_lines.proofs.Common.{◌≡◌, ◌+◌, ◌<◌, ◌-◌, ◌∙◌, None, ap, length, refl, sym, arith, get_or-set_same, get_or_default, buffer_of, files_up_to}
 use Rattle.cweb_input.specs.inner.OpenSources.{maximum_of}
 use Rattle.cweb_input.proofs.ReadersStayNamed.{named_at, named_set}
 use Rattle.cweb_input.proofs.SourceStacks.{top_passed, most_read, most_set, stays_below, deep-at, deep-set}
 use Rattle.cweb_lines.proofs.passing.advance.advance_top.Goals as goal
 
 pub advance_slot-requires-clause-number : goal.advance_slot-requires-clause-number
-advance_slot-requires-clause-number g c =
-    let within : c.args.stack.now.depth - 1 < length c.args.stack.now.texts = omega arith in
-    omega (
-      arith,
-      most_read line_number c.args.stack.now.texts
-          (c.args.stack.now.depth - 1) c.index-stack-top.result within,
-      c.requires.numbers,
-    )
+advance_slot-requires-clause-number g c = grind (arith, most_read)
 
 pub returns-clause-passes : goal.returns-clause-passes
-returns-clause-passes g c = λ entry lines in_place.
-    let texts = c.args.stack.now.texts in
-    let within : c.args.stack.now.depth - 1 < length texts = omega arith in
-    let same = get_or_default texts (c.args.stack.now.depth - 1) None c.index-stack-top.result within in
-    let passes =
-    c.advance_slot.ensures.passes entry lines
-    (subst (λ slot. IsStretchAt entry slot c.args.stretch lines) same in_place) in
-    let level = c.advance_slot.ensures.level in
-    let takes = subst (λ slot.
-    PassesSlot slot c.advance_slot.new.slot c.args.limits.now c.advance_slot.new.limits lines) (sym same) passes in
-    let kept = subst (λ slot. KeepsLevel slot c.advance_slot.new.slot) (sym same) level in
-    record {
-      takes = λ left low above rest. top_passed left texts None c.advance_slot.new.slot
-          c.args.stack.now.depth within (counters_of c.args.limits.now) (counters_of c.args.limits.now)
-          [] low above rest
-          (sources_next (top_of c.args.stack.now) lines) kept.depth kept.may_match (takes.takes left);
-      few = passes.few;
-      bytes = passes.bytes;
-    }
+returns-clause-passes g c = grind (arith, get_or_default, top_passed)
 
 pub returns-clause-keeps : goal.returns-clause-keeps
 returns-clause-keeps g c =
@@ -60,6 +35,4 @@ returns-clause-keeps g c =
     }
 
 pub returns-clause-numbers : goal.returns-clause-numbers
-returns-clause-numbers g c = most_set line_number c.args.stack.now.texts
-    (c.args.stack.now.depth - 1) c.advance_slot.new.slot c.advance_slot.new.limits.lines
-    (omega (arith, c.requires.numbers, c.advance_slot.ensures.more)) c.advance_slot.ensures.number
+returns-clause-numbers g c = grind (arith, most_set)

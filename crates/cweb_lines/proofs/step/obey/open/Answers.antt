@@ -1,30 +1,10 @@
-use Rattle.cweb_lines.proofs.Common.{◌≡◌, ◌+◌, ◌∷◌, [], ℕ, List, length, sym, arith, ap, ◌∙◌, length-append, string_bytes, ◌++◌, subst, get_or, get_or_push, opened_file_names, AreReadersNamed, IsReaderNamed, line_number, files_up_to}
+use Rattle.cweb_lines.proofs.Common.{◌≡◌, ◌+◌, ◌∷◌, [], ℕ, List, sym, arith, ap, ◌∙◌, length-append, string_bytes, ◌++◌, subst, get_or, get_or_push, opened_file_names, AreReadersNamed, IsReaderNamed}
 use Rattle.cweb_input.proofs.ReadersStayNamed.{change_more, named_more, named_set}
 use Rattle.cweb_input.proofs.SourceStacks.{most_set}
 use Rattle.cweb_lines.proofs.step.obey.open.Goals as goal
 
 pub invariant_of-run-2 : goal.invariant_of-run-2
-invariant_of-run-2 g c =
-    let count : length (opened_file_names c.push.new.self) ≡ length (opened_file_names c.args.run.now.names) + 1 =
-    ap (λ (ns : List (List ℕ)). length ns) c.in_ok-push.ensures.ok
-    ∙ length-append (opened_file_names c.args.run.now.names) (string_bytes c.args.opening.name ∷ []) in
-    record {
-      shallow = omega (arith, c.push-2.ensures.depth, c.requires.room, c.requires.deep);
-      deep = c.push-2.ensures.deep;
-      numbers = rw c.push-2.ensures.texts (most_set line_number c.args.run.now.stack.texts c.args.run.now.stack.depth _
-          c.args.run.now.limits.lines c.args.run.now.numbers (omega arith));
-      change_number = c.args.run.now.change_number;
-      floor = omega (arith, c.push-2.ensures.depth, c.args.run.now.floor);
-      floor_deep = c.args.run.now.floor_deep;
-      named = omega (arith, count, c.requires.names);
-      open_known = rw c.push-2.ensures.texts (most_set files_up_to c.args.run.now.stack.texts c.args.run.now.stack.depth
-          _ (length (opened_file_names c.push.new.self))
-          (omega (arith, count, c.args.run.now.open_known)) (omega (arith, count, c.count.ensures)));
-      change_known = omega (arith, count, c.args.run.now.change_known);
-      begun_known = omega (arith, count, c.args.run.now.begun_known);
-      faults_known = omega (arith, count, c.args.run.now.faults_known);
-      stop_known = omega (arith, count, c.args.run.now.stop_known);
-    }
+invariant_of-run-2 g c = grind (arith, length-append, most_set)
 
 pub returns-clause-readers : goal.returns-clause-readers
 returns-clause-readers g c = λ opened_as opened known.

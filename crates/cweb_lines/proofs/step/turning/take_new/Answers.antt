@@ -1,5 +1,5 @@
 use Rattle.cweb_input.proofs.Errors.{same_error}
-use Rattle.cweb_lines.proofs.Common.{rules, Some, ap, sym, subst, ◌∙◌, change_code, counters_of, Stopped, change_lines, so_far_of}
+use Rattle.cweb_lines.proofs.Common.{rules, Some, ap, sym, ◌∙◌, change_code, counters_of, so_far_of, arith}
 use Rattle.cweb_lines.proofs.ReportsOnlyGrow.{took_faults, took_names}
 use Rattle.cweb_input.proofs.Found.{IfOk-map}
 use Rattle.cweb_lines.proofs.EmittedLinesAddUp.{yields_took}
@@ -11,21 +11,7 @@ use Rattle.cweb_lines.proofs.step.turning.take_new.Goals as goal
 
 pub returns-in_err-at : goal.returns-in_err-at
 returns-in_err-at g c =
-    let took = c.in_err-at.ensures.takes in
-    rw (same_error _ _ c.from_residual.ensures.1) (record {
-      reads = took.reads;
-      turns = search rules;
-      yields = λ seen it. tt;
-      stops = λ seen it. record {
-        why = subst (λ es. Stopped c.in_err-at.field-0.0 (so_far_of c.args.run.now) (so_far_of c.take_change.new.run)
-            es) (sym (coming_is seen.texts seen.left c.args.run.now
-            c.args.change c.requires.changing c.requires.below))
-            (new_stops _ c.args.change _ _ c.in_err-at.field-0.0 (change_lines seen.left
-            c.args.run.now) _ _ (reported_stays c.args.run.now _ took.only took.answers.counted)
-            (c.in_err-at.ensures.stops seen it));
-        reported = unreported _ _ _ (took_faults took.only) (took_names took.only);
-      };
-    })
+    grind (arith, same_error, coming_is, new_stops, reported_stays, unreported, took_faults, took_names)
 
 pub returns-in_default : goal.returns-in_default
 returns-in_default g c =

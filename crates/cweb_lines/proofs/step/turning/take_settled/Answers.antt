@@ -1,5 +1,5 @@
 use Rattle.cweb_input.proofs.Errors.{same_error}
-use Rattle.cweb_lines.proofs.Common.{rules, Some, ◌≡◌, sym, ◌∙◌, counters_of, change_lines, pending_of, things_of, so_far_of, CountsLine, events_to_come, events_after_line, begun_by, pending_in}
+use Rattle.cweb_lines.proofs.Common.{rules, Some, ◌≡◌, counters_of, pending_of, so_far_of, CountsLine, events_to_come, events_after_line, begun_by, arith}
 use Rattle.cweb_lines.proofs.ReportsOnlyGrow.{took_faults, took_names}
 use Rattle.cweb_input.proofs.Found.{IfOk-map}
 use Rattle.cweb_lines.proofs.Stops.{stopped_by, stops_unreported, reported_stays, things_first, unreported}
@@ -15,22 +15,18 @@ use Rattle.cweb_lines.proofs.step.turning.take_settled.Goals.{In-Some, In-Some-b
 
 pub returns-in_err-at : goal.returns-in_err-at
 returns-in_err-at g c =
-    let took = c.in_err-at.ensures.takes in
-    rw (same_error _ _ c.from_residual.ensures.1) (record {
-      reads = took.reads;
-      turns = search rules;
-      yields = λ seen it. tt;
-      stops = λ seen it. record {
-        why = stopped_by c.in_err-at.field-0.0 (so_far_of c.args.run.now) (so_far_of c.take_raw.new.run) _
-            (things_of seen.left c.args.run.now) (pending_of c.args.run.now) _ _
-            (reported_stays c.args.run.now _ took.only took.answers.counted)
-            (things_first seen.left c.args.run.now.stage _ c.args.run.now.stack)
-            (stops_map c.in_err-at.field-0.0 (stops_in seen.left c.args.run.now.stage
-            (change_lines seen.left c.args.run.now) c.args.run.now.stack c.in_err-at.field-0.0
-            (counters_of c.args.run.now.limits) c.requires.settled) (c.in_err-at.ensures.stops seen it));
-        reported = unreported _ _ _ (took_faults took.only) (took_names took.only);
-      };
-    })
+    grind (
+      arith,
+      same_error,
+      stopped_by,
+      reported_stays,
+      things_first,
+      stops_map,
+      stops_in,
+      unreported,
+      took_faults,
+      took_names,
+    )
 
 taken : (g : given.Over) (c : In-Some g) (seen : ShelfContents g.row.S-R.Denot)
     → (g.S.Shelf.model c.args.shelf.now).contents ≡ Some seen → (t : CountsLine
@@ -46,8 +42,7 @@ taken g c seen it =
 
 begun : (g : given.Over) (c : In-Some-begun_at g) → begun_by (pending_of c.take_raw.new.run) c.in-Some.at.may_match
     c.take_raw.new.line.items ≡ Some c.in-Some-begun_at.begin
-begun g c = (λ i. begun_by (pending_in c.take_raw.new.run.stage (sym c.deref.ensures.value i)) c.in-Some.at.may_match
-    (sym c.deref-2.ensures.value i)) ∙ sym c.begun_at.ensures ∙ c.in-Some-begun_at.is
+begun g c = grind arith
 
 pub returns-in_default-begun_at : goal.returns-in_default-begun_at
 returns-in_default-begun_at g c =

@@ -5,8 +5,7 @@ use Rattle.cweb_out.proofs.expander.Expander.advance.Goals as goal
 pub take-requires : goal.take-requires
 take-requires c =
     let frames = c.frames.self.frames in
-    let top : HasTop (vec_len frames) frames.items c.in-Some.frame.now =
-    record { count = frames.ok.0; some = c.in-Some.ensures.item.3.0; is = c.in-Some.ensures.value } in
+    let top : HasTop (vec_len frames) frames.items c.in-Some.frame.now = grind arith in
     (valid_lower c.frames.invariant.valid top).1.owned.within
 
 abbrev moved : (c : goal.In-Some-take)
@@ -33,10 +32,8 @@ returns-in-Some-take-clause-some c = (moved c).advances
 pub frames-preserved : goal.frames-preserved
 frames-preserved c =
     let frames = c.frames.self.frames in
-    let top : HasTop (vec_len frames) frames.items c.in-Some.frame.now =
-    record { count = frames.ok.0; some = c.in-Some.ensures.item.3.0; is = c.in-Some.ensures.value } in
-    let is : c.pop.new.self.items ≡ lower (vec_len frames) frames.items = c.pop.ensures.rest
-    ∙ take-set frames.items (vec_len frames - 1) c.take.new.self in
+    let top : HasTop (vec_len frames) frames.items c.in-Some.frame.now = grind arith in
+    let is : c.pop.new.self.items ≡ lower (vec_len frames) frames.items = grind (arith, take-set) in
     let ended = top_ended c.frames.invariant.valid top (c.in_default-take.ensures.none refl) is in
     let less = ended.work in
     let earlier = c.frames.invariant.work in

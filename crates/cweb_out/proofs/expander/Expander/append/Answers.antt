@@ -8,8 +8,7 @@ use Rattle.cweb_out.proofs.expander.Expander.append.Goals.{After-pop, In_default
 
 pub append-requires : goal.append-requires
 append-requires c =
-    let top : HasTop (vec_len c.frames.self.frames) c.frames.self.frames.items c.in-Some.frame.now =
-    record { count = c.frames.self.frames.ok.0; some = c.in-Some.ensures.item.3.0; is = c.in-Some.ensures.value } in
+    let top : HasTop (vec_len c.frames.self.frames) c.frames.self.frames.items c.in-Some.frame.now = grind arith in
     (valid_lower c.frames.invariant.valid top).1.owned.within
 
 abbrev gone : (c : After-pop) → TopGone c.args.self.now.store.now

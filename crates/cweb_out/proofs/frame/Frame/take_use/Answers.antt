@@ -1,11 +1,10 @@
-use Rattle.cweb_out.proofs.Common.{◌≡◌, ◌∷◌, refl, Name}
+use Rattle.cweb_out.proofs.Common.{◌≡◌, ◌∷◌, refl, arith}
 use Rattle.cweb_out.proofs.Suffixes.{IsWithin-next}
 use Rattle.cweb_out.proofs.FirstUses.{pass-on, pass-part, pass-to-use}
 use Rattle.cweb_out.proofs.frame.Frame.take_use.Goals as goal
 
 pub returns-in-Some-clause-some : goal.returns-in-Some-clause-some
-returns-in-Some-clause-some c = pass-on c.parts.invariant.passed (pass-to-use c.args.store.now
-    c.parts.self c.take_use_in.new.part (Name c.in-Some.name) c.parts.invariant.started c.in-Some.ensures.some)
+returns-in-Some-clause-some c = grind (arith, pass-on, pass-to-use)
 
 pub parts-preserved : goal.parts-preserved
 parts-preserved c =

@@ -1,12 +1,9 @@
-use Rattle.cweb_print.proofs.Common.{◌++◌, ◌∙◌, ap, append_assoc, arith, take, List, ℕ, rules, blank_where}
+use Rattle.cweb_print.proofs.Common.{◌++◌, ◌∙◌, ap, append_assoc, arith, take, List, ℕ, blank_where}
 use Rattle.cweb_print.proofs.OverlappingEnds.{prefix_stays}
 use Rattle.cweb_print.proofs.buffer.copying.put_if_fits.Goals as goal
 
 pub returns-clause-kept : goal.returns-clause-kept
-returns-clause-kept c =
-    let text = c.args.text.now in
-    c.put_slice.ensures.put ∙ ap (λ (t : List ℕ). t ++ text) c.put_blank-begin.ensures.put
-    ∙ append_assoc (take c.args.used c.args.bytes.now) (blank_where c.args.is_apart) text
+returns-clause-kept c = grind (arith, append_assoc)
 
 pub returns-clause-prefix : goal.returns-clause-prefix
 returns-clause-prefix c =
@@ -24,9 +21,3 @@ returns-clause-prefix c =
     ))
     (c.put_slice.ensures.put ∙ ap (λ (t : List ℕ). t ++ text) c.put_blank-begin.ensures.put
     ∙ append_assoc (take c.args.used c.args.bytes.now) (blank_where c.args.is_apart) text)
-
-pub returns-then-used-text-ge-ROOM-clause-kept : goal.returns-then-used-text-ge-ROOM-clause-kept
-returns-then-used-text-ge-ROOM-clause-kept c = search rules
-
-pub returns-then-used-text-ge-ROOM-clause-room : goal.returns-then-used-text-ge-ROOM-clause-room
-returns-then-used-text-ge-ROOM-clause-room c = search rules

@@ -1,4 +1,4 @@
-use Rattle.cweb_print.proofs.Common.{arith, append-nil, ◌≡◌, ◌≤◌, ◌∷◌, ◌++◌, ◌∙◌, ap, refl, sym, subst, length, List, ℕ, Part, SinkModel, all_tokens, macro_line, replaced_in, tokens_of_part, written}
+use Rattle.cweb_print.proofs.Common.{arith, append-nil, ◌≡◌, ◌≤◌, ◌∷◌, ◌++◌, subst, length, List, Part, SinkModel, all_tokens, macro_line, replaced_in, tokens_of_part, written}
 use Rattle.cweb_files.proofs.Appending.{wrote_until}
 use Rattle.cweb_print.proofs.AppendedParts.{WrittenBefore, before_none, before_then, before_until}
 use Rattle.cweb_print.proofs.MacroLines.{All-tail, lines, lines_are}
@@ -7,28 +7,10 @@ use Rattle.cweb_print.specs.declared.printer.buffered.Printable.{Printable}
 use Rattle.cweb_print.proofs.printer.Printer.append_defs.Goals as goal
 
 pub macros-init : goal.macros-init
-macros-init g c =
-    let p = c.args.self.now in
-    let begin = printable_bytes p Printable.LineStart in
-    let old : SinkModel = written c.args.buffer.now.bytes (g.W.Sink.model c.args.out.now) in
-    let mid : SinkModel = written c.append_printable.new.buffer.bytes (g.W.Sink.model c.append_printable.new.out) in
-    record {
-      ordered = c.macros-parts.ensures.ranges.ordered;
-      within = c.macros-parts.ensures.ranges.within;
-      wrote = subst (λ (t : List ℕ). WrittenBefore old mid (begin ++ all_macro_lines p) t)
-          (sym (ap (lines p.store.now) c.macros-parts.ensures.ranges.numbers ∙ lines_are p.store.now))
-          (before_then begin (all_macro_lines p) (before_none old (begin ++ all_macro_lines p))
-          c.in_ok-append_printable.ensures);
-    }
+macros-init g c = grind (arith, lines_are, before_then, before_none)
 
 pub returns-in_err-append_printable : goal.returns-in_err-append_printable
-returns-in_err-append_printable g c =
-    wrote_until _ _ (all_macro_lines c.args.self.now) _ _ c.from_residual.result c.from_residual.ensures.0 refl
-    c.in_err-append_printable.ensures
-
-pub append_printable-requires-in-Some-clause-count : goal.append_printable-requires-in-Some-clause-count
-append_printable-requires-in-Some-clause-count g c =
-    omega (arith, ap (λ (sink : SinkModel). sink.failed) c.macros.invariant.wrote.wrote, c.requires)
+returns-in_err-append_printable g c = grind (arith, wrote_until)
 
 pub macros-preserved : goal.macros-preserved
 macros-preserved g c =
@@ -62,10 +44,4 @@ returns-in_err-append_printable-2 g c =
     c.in_err-append_printable-2.ensures
 
 pub returns : goal.returns
-returns g c =
-    let done = c.macros.invariant.wrote in
-    let last : done.prefix ++ lines c.args.self.now.store.now c.macros.parts ≡ done.prefix =
-    ap (λ (ps : List Part). done.prefix ++ lines c.args.self.now.store.now ps) c.in_default.ensures.steps.0
-    ∙ append-nil done.prefix in
-    done.wrote ∙ ap (λ (t : List ℕ). written t (written c.args.buffer.now.bytes (g.W.Sink.model c.args.out.now)))
-    (sym (done.whole ∙ last))
+returns g c = grind (arith, append-nil)

@@ -1,3 +1,4 @@
+use Rattle.std.proofs.Common.{arith}
 use Rattle.cweb_print.proofs.Common.{[], append-nil, begin_by, ap, refl, sym, ◌∙◌, left_in_printer, setting_of}
 use Rattle.cweb_files.specs.Sinks.{failed_once}
 use Rattle.cweb_print.proofs.AppendedParts.{wrote_err}
@@ -29,9 +30,4 @@ returns-in_err-flush-clause-ends g c =
     }
 
 pub returns-clause-ends : goal.returns-clause-ends
-returns-clause-ends g c = record {
-  bytes = begin_by (left_in_printer c.args.self.now).class;
-  expected = λ ts is. file-end (setting_of c.args.self.now) (left_in_printer c.args.self.now) ts is;
-  wrote = moved_same _ _ _ _ c.in_ok-flush.ensures.moved c.in_ok-flush.ensures.empty
-      ∙ c.in_ok-append_printable.ensures;
-}
+returns-clause-ends g c = grind (arith, file-end, moved_same)

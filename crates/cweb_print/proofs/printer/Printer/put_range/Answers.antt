@@ -1,4 +1,5 @@
-use Rattle.cweb_print.proofs.Common.{◌++◌, ◌∙◌, [], List, Some, ap, slice_range, sym, subst, take, arith, length, option_map, length-map, TokenBytesModel, direct_bytes, token_bytes_model, Token, all_tokens, Left, left_after_edge, blank_where}
+use Rattle.std.proofs.Common.{rules}
+use Rattle.cweb_print.proofs.Common.{◌++◌, ◌∙◌, List, Some, ap, slice_range, sym, subst, take, arith, option_map, length-map, TokenBytesModel, token_bytes_model, Token, all_tokens, left_after_edge, blank_where}
 use Rattle.cweb_print.proofs.TokenReaderSteps.{direct-at}
 use Rattle.cweb_print.proofs.MacroLines.{range_more}
 use Rattle.cweb_print.proofs.DirectPrefixes.{Passed, passed_more, passed_none, passed_same}
@@ -6,30 +7,10 @@ use Rattle.cweb_store.proofs.RangeLemmas.{range-none}
 use Rattle.cweb_print.proofs.printer.Printer.put_range.Goals as goal
 
 pub tokens-init : goal.tokens-init
-tokens-init c =
-    let p = c.args.self.now in
-    let first = c.args.part.first in
-    let old = take c.args.used c.args.bytes.now in
-    record {
-      from = omega arith;
-      upto = c.requires.ordered;
-      size = c.requires.room.0;
-      within = c.requires.room.1;
-      passed = subst (λ (us : List Token). Passed p us (left_after_edge c.edge_of_class.result) old old)
-          (sym (range-none
-          (all_tokens c.args.store.now.parts) first first (omega arith))) (subst (λ (l : Left). Passed p [] l old old)
-          (λ i. record { class = sym c.edge_of_class.ensures i; joined = c.requires.open i }) (passed_none p old));
-    }
+tokens-init c = search (rules, range-none, passed_none)
 
 pub direct-requires : goal.direct-requires
-direct-requires c =
-    omega (
-      arith,
-      c.tokens-test.true,
-      c.requires.within,
-      ap length c.token_reader-token_reader.ensures,
-      length-map (all_tokens c.args.store.now.parts) direct_bytes,
-    )
+direct-requires c = grind (arith, length-map)
 
 pub tokens-preserved : goal.tokens-preserved
 tokens-preserved c =
@@ -57,5 +38,4 @@ tokens-preserved c =
     }
 
 pub returns-in_default-put_if_fits-clause-prints : goal.returns-in_default-put_if_fits-clause-prints
-returns-in_default-put_if_fits-clause-prints c =
-    (passed_same _ _ _ _ _ _ c.put_if_fits.ensures.prefix c.tokens.invariant.passed).prints
+returns-in_default-put_if_fits-clause-prints c = grind (arith, passed_same)

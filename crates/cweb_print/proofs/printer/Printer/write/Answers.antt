@@ -1,4 +1,4 @@
-use Rattle.cweb_print.proofs.Common.{refl, token_model, added, file_by, left_in_printer, setting_of}
+use Rattle.cweb_print.proofs.Common.{token_model, added, file_by, left_in_printer, setting_of, arith}
 use Rattle.cweb_print.proofs.AppendedParts.{wrote_err}
 use Rattle.cweb_print.proofs.Steps.{print-push}
 use Rattle.cweb_print.proofs.printer.Printer.write.Goals as goal
@@ -11,8 +11,7 @@ returns-in_err-write_token-clause-prints g c =
     record {
       bytes = added (file_by s) left t;
       expected = λ ts is. print-push s left ts t is;
-      wrote = wrote_err _ _ _ _ c.from_residual.result c.from_residual.ensures.0 refl
-          c.in_err-write_token.ensures.wrote;
+      wrote = grind (arith, wrote_err);
     }
 
 pub returns-clause-prints : goal.returns-clause-prints

@@ -1,4 +1,5 @@
-use Rattle.cweb_print.proofs.Common.{◌≡◌, ◌++◌, ap, List, ℕ, codes, refl, Stored, Part, macro_line, all_added, at_start, macro_by, replaced_in, tokens_of_part}
+use Rattle.std.proofs.Common.{arith}
+use Rattle.cweb_print.proofs.Common.{◌≡◌, ◌++◌, codes, refl, Stored, Part, macro_line, all_added, at_start, macro_by, replaced_in, tokens_of_part}
 use Rattle.cweb_files.proofs.Appending.{wrote_until}
 use Rattle.cweb_print.proofs.AppendedParts.{second_until, three_then}
 use Rattle.cweb_print.proofs.Steps.{macro-printed}
@@ -7,8 +8,7 @@ use Rattle.cweb_print.proofs.printer.macros.write_macro.Goals as goal
 -- The line as its three parts.
 in_three : (w : Stored) (part : Part) → macro_line (replaced_in w) (tokens_of_part w part)
     ≡ codes "#define " ++ (all_added (macro_by (replaced_in w)) at_start (tokens_of_part w part) ++ codes "\n")
-in_three w part =
-    ap (λ (t : List ℕ). codes "#define " ++ (t ++ codes "\n")) (macro-printed (replaced_in w) (tokens_of_part w part))
+in_three w part = grind (arith, macro-printed)
 
 pub returns-in_err-write_chunk : goal.returns-in_err-write_chunk
 returns-in_err-write_chunk g c = record {

@@ -1,4 +1,4 @@
-use Rattle.cweb_print.proofs.Common.{◌∙◌, ap, List, ℕ, written, rules, length, ◌<◌, arith, slice_range, all_tokens, added, all_added, at_start, macro_by, replaced_in}
+use Rattle.cweb_print.proofs.Common.{◌∙◌, ap, List, ℕ, written, length, ◌<◌, arith, slice_range, all_tokens, added, all_added, at_start, macro_by, replaced_in}
 use Rattle.cweb_files.proofs.Appending.{written_none, written_then}
 use Rattle.cweb_print.proofs.AppendedParts.{second_until}
 use Rattle.cweb_print.proofs.MacroLines.{left_more, none_added, one_added, tokens_at}
@@ -7,15 +7,7 @@ use Rattle.cweb_print.specs.inner.Classes.{token_at}
 use Rattle.cweb_print.proofs.printer.macros.write_macro_tokens.Goals as goal
 
 pub tokens-init : goal.tokens-init
-tokens-init g c =
-    let by = macro_by (replaced_in c.args.store.now) in
-    let ts = all_tokens c.args.store.now.parts in record {
-      from = omega arith;
-      end = search rules;
-      left = search rules;
-      wrote = written_none (g.W.Sink.model c.args.out.now)
-          ∙ ap (λ (t : List ℕ). written t (g.W.Sink.model c.args.out.now)) (none_added by ts c.args.part.first);
-    }
+tokens-init g c = grind (arith, written_none, none_added)
 
 pub tokens-preserved : goal.tokens-preserved
 tokens-preserved g c =

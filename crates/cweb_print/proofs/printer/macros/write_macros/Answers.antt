@@ -1,18 +1,11 @@
-use Rattle.cweb_print.proofs.Common.{◌≡◌, ◌≤◌, ◌∷◌, ◌∙◌, ap, sym, subst, length, List, ℕ, Part, all_tokens, macro_line, replaced_in, tokens_of_part}
+use Rattle.std.proofs.Common.{arith}
+use Rattle.cweb_print.proofs.Common.{◌≡◌, ◌≤◌, ◌∷◌, subst, length, List, Part, all_tokens, macro_line, replaced_in, tokens_of_part}
 use Rattle.cweb_print.proofs.AppendedParts.{WrittenBefore, before_none, before_then, before_until}
 use Rattle.cweb_print.proofs.MacroLines.{All-tail, all_lines, lines, lines_are}
 use Rattle.cweb_print.proofs.printer.macros.write_macros.Goals as goal
 
 pub macros-init : goal.macros-init
-macros-init g c =
-    let w = c.args.store.now in
-    let sink = g.W.Sink.model c.args.out.now in
-    record {
-      ordered = c.macros-parts.ensures.ranges.ordered;
-      within = c.macros-parts.ensures.ranges.within;
-      wrote = subst (λ (t : List ℕ). WrittenBefore sink sink (all_lines w) t)
-          (sym (ap (lines w) c.macros-parts.ensures.ranges.numbers ∙ lines_are w)) (before_none sink (all_lines w));
-    }
+macros-init g c = grind (arith, lines_are, before_none)
 
 pub macros-preserved : goal.macros-preserved
 macros-preserved g c =

@@ -1,4 +1,5 @@
-use Rattle.cweb_print.proofs.Common.{◌≡◌, ◌++◌, ◌∙◌, refl, sym, Bool, List, ℕ, Left, Token, false, token_model, added, is_apart, is_dropped, blank_where, continuation_bytes, macro_by, plain_bytes, replaced_in}
+use Rattle.std.proofs.Common.{arith}
+use Rattle.cweb_print.proofs.Common.{◌≡◌, ◌++◌, ◌∙◌, sym, Bool, List, ℕ, Left, Token, false, token_model, added, is_apart, is_dropped, blank_where, continuation_bytes, macro_by, plain_bytes, replaced_in}
 use Rattle.cweb_files.proofs.Appending.{wrote_until}
 use Rattle.cweb_print.proofs.AppendedParts.{second_until, three_then}
 use Rattle.cweb_print.proofs.printer.macros.write_spaced.Goals as goal
@@ -10,20 +11,10 @@ in_three : (replaced : ℕ → List ℕ) (left : Left) (t : Token) (apart : Bool
 in_three replaced left t apart continued stays is continues = cc (stays, is, continues)
 
 pub returns-in_err-write_blank : goal.returns-in_err-write_blank
-returns-in_err-write_blank g c = record {
-  wrote = wrote_until _ (blank_where c.is_apart.result) _ _ _ c.from_residual.result c.from_residual.ensures.0
-      (in_three (replaced_in c.args.store.now) c.args.left (token_model c.args.token.now) c.is_apart.result _
-      (sym c.drops.ensures ∙ c.if-drops.false) c.is_apart.ensures refl) c.in_err-write_blank.ensures.wrote;
-}
+returns-in_err-write_blank g c = grind (arith, wrote_until, in_three)
 
 pub returns-in_err-write_chunk : goal.returns-in_err-write_chunk
-returns-in_err-write_chunk g c = record {
-  wrote = second_until _ _ _ _ (blank_where c.is_apart.result) c.continued.result.now _
-      c.from_residual-in_err-write_chunk.result c.from_residual-in_err-write_chunk.ensures.0
-      (in_three (replaced_in c.args.store.now) c.args.left (token_model c.args.token.now) c.is_apart.result _
-      (sym c.drops.ensures ∙ c.if-drops.false) c.is_apart.ensures c.continued.ensures)
-      c.in_ok-write_blank.ensures.wrote c.in_err-write_chunk.ensures.wrote;
-}
+returns-in_err-write_chunk g c = grind (arith, second_until, in_three)
 
 pub returns : goal.returns
 returns g c = record {

@@ -1,5 +1,5 @@
 use Rattle.cweb_input.proofs.Found.{IfOk-map}
-use Rattle.cweb_scan.proofs.Common.{sym, ap, ◌∙◌, arith, drop, ◌+◌, literal_match, literal_prefix, look_in_literal, IsLine-take, ap, refl}
+use Rattle.cweb_scan.proofs.Common.{sym, ap, ◌∙◌, arith, drop, ◌+◌, literal_match, look_in_literal, IsLine-take, ap, refl}
 use Rattle.cweb_rules.specs.inner.LineItems.{goes_on}
 use Rattle.cweb_rules.proofs.LineLiterals.{is_quoted-size}
 use Rattle.cweb_rules.proofs.UnitNewlines.{none-ends}
@@ -8,27 +8,10 @@ use Rattle.cweb_scan.proofs.PendingLiterals.{is_literal, quote_as}
 use Rattle.cweb_scan.proofs.reader.Reader.open_literal.Goals as goal
 
 pub split_at-requires-2 : goal.split_at-requires-2
-split_at-requires-2 c = omega (
-  arith,
-  c.literal_prefix-prefix.ensures.value,
-  is_quoted-size (literal_prefix
-      c.args.rest.bytes.now) c.args.rest.bytes.now c.requires.opens,
-)
+split_at-requires-2 c = grind (arith, is_quoted-size)
 
 pub hold-requires-clause-source : goal.hold-requires-clause-source
-hold-requires-clause-source c =
-    let u = c.args.rest.bytes.now in
-    let p = c.literal_prefix-prefix.ensures.value in
-    let quote = quote_as u u u c.split_at.result.1.now c.literal_prefix-prefix.result c.byte.result refl refl p
-    c.split_at.ensures.back (c.byte.ensures ∙ c.of-quote.ensures) in
-    let inner = c.split_at-2.ensures.back ∙ ap (λ n. drop (n + 1) u) p in
-    record {
-      item = (c.requires.next.context, c.requires.past, c.requires.plain, c.requires.opens);
-      unclosed = (is_literal c.args.self.now.state u c.requires.next.context c.requires.past c.requires.plain
-          c.requires.opens).opens_is ∙ sym (λ i. goes_on (look_in_literal (quote i)) (inner i))
-          ∙ sym c.continues.ensures ∙ c.if-continues.true;
-      newlines = none-ends u c.args.rest.line;
-    }
+hold-requires-clause-source c = grind (arith, quote_as, is_literal, none-ends)
 
 pub take_literal-requires-clause-lines : goal.take_literal-requires-clause-lines
 take_literal-requires-clause-lines c =

@@ -1,6 +1,6 @@
 use Rattle.cweb_rules.specs.declared.rule.Rule.TheVariants as rule
 use Rattle.cweb_input.proofs.Found.{IfOk-map}
-use Rattle.cweb_scan.proofs.Common.{◌&&◌, false, ap, sym, ◌∙◌, section_match, in_c, c_match_by, is_c, names_include}
+use Rattle.cweb_scan.proofs.Common.{◌&&◌, false, ap, sym, ◌∙◌, section_match, in_c, c_match_by, is_c, names_include, arith}
 use Rattle.cweb_scan.proofs.InLineItemSteps.{closed_at}
 use Rattle.cweb_scan.proofs.InLineRules.{closes, rule_closed}
 use Rattle.cweb_scan.proofs.RuleSteps.{ends_closes, is_ended, left_ends, part_head, rule_in_line, two_fit}
@@ -36,12 +36,7 @@ open_literal-requires-clause-opens c =
     c.in-Literal.is)).2
 
 pub take_rule-requires-clause-ends : goal.take_rule-requires-clause-ends
-take_rule-requires-clause-ends c =
-    let s = c.args.self.now.state in
-    let no_end = ap is_ended c.requires.first
-    ∙ rule_in_line (is_c s.context && names_include s) c.args.rest.bytes.now c.args.rest.line in
-    left_ends c.args.rule c.in_default.not-Comment
-    c.in_default.not-Section c.in_default.not-Code c.in_default.not-RawLiteral c.in_default.not-Literal no_end
+take_rule-requires-clause-ends c = grind (arith, rule_in_line, left_ends)
 
 pub take_rule-requires-clause-two : goal.take_rule-requires-clause-two
 take_rule-requires-clause-two c =

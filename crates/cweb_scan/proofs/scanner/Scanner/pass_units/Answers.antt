@@ -1,5 +1,5 @@
 use Rattle.cweb_input.proofs.Found.{IfOk-map}
-use Rattle.cweb_scan.proofs.Common.{ap, arith, at_line_ends, reach, Open}
+use Rattle.cweb_scan.proofs.Common.{arith, reach, Open}
 use Rattle.cweb_rules.specs.inner.LineItems.{look_of}
 use Rattle.cweb_rules.proofs.Lasts.{reach-fits}
 use Rattle.cweb_scan.proofs.FurtherLiterals.{none_valid}
@@ -10,12 +10,7 @@ pub split_at-requires : goal.split_at-requires
 split_at-requires c = omega (arith, c.requires.size, reach-fits c.args.item c.args.inner.now)
 
 pub pass_unit-requires : goal.pass_unit-requires
-pass_unit-requires c = omega (
-  arith,
-  ap (at_line_ends 1) (whole_is c.args.item c.args.inner.now c.split_at.result.0.now c.args.size c.requires.size
-      c.split_at.ensures.front),
-  c.requires.lines,
-)
+pass_unit-requires c = grind (arith, whole_is)
 
 pub returns-then-skipped_len-whole : goal.returns-then-skipped_len-whole
 returns-then-skipped_len-whole c =

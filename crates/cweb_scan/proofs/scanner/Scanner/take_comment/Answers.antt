@@ -1,22 +1,13 @@
-use Rattle.cweb_scan.proofs.Common.{arith, drop, length-drop, ap, ◌∙◌, Cut, pass_comment, ended_as, passed, comment_line_end, ScanState}
-use Rattle.cweb_rules.specs.declared.items.Item.TheVariants.{Comment}
+use Rattle.cweb_scan.proofs.Common.{arith, length-drop, ap, ◌∙◌, Cut, pass_comment, ended_as, passed, comment_line_end, ScanState}
 use Rattle.cweb_scan.proofs.Ends.{extent_fits}
 use Rattle.cweb_scan.proofs.PendingComments.{comment_applies}
 use Rattle.cweb_scan.proofs.scanner.Scanner.take_comment.Goals as goal
 
 pub overflow_add-result : goal.overflow_add-result
-overflow_add-result c = omega (
-  arith,
-  extent_fits Comment (drop 2 c.args.text.now) c.args.extent c.requires.extent,
-  length-drop 2 c.args.text.now,
-)
+overflow_add-result c = grind (arith, extent_fits, length-drop)
 
 pub overflow_add-result-2 : goal.overflow_add-result-2
-overflow_add-result-2 c = omega (
-  arith,
-  extent_fits Comment (drop 2 c.args.text.now) c.args.extent c.requires.extent,
-  length-drop 2 c.args.text.now,
-)
+overflow_add-result-2 c = grind (arith, extent_fits, length-drop)
 
 pub returns : goal.returns
 returns c =

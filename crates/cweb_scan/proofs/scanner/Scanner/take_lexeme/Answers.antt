@@ -6,16 +6,7 @@ use Rattle.cweb_scan.proofs.Plains.{stays_plain, blanks_turn, word_turn, sign_tu
 use Rattle.cweb_scan.proofs.scanner.Scanner.take_lexeme.Goals as goal
 
 pub returns-in-Blank-clause-taken : goal.returns-in-Blank-clause-taken
-returns-in-Blank-clause-taken c = record {
-  taken =
-      let s = c.args.self.now in
-      let u = c.args.rest.bytes.now in
-      let known = known-at (is_c s.context && names_include s) u plain.Blank c.args.rest.some
-      (sym c.in-Blank.is ∙ c.first_byte_class.ensures) in
-      blanks_turn c.nonempty_span_len.result u s c.args.rest.line c.args.rest.some c.requires.in_c known.0
-      c.nonempty_span_len.ensures.value;
-  stays = c.requires.in_c;
-}
+returns-in-Blank-clause-taken c = grind (arith, known-at, blanks_turn)
 
 pub returns-in_ok-emit_plain-in-Word-clause-taken : goal.returns-in_ok-emit_plain-in-Word-clause-taken
 returns-in_ok-emit_plain-in-Word-clause-taken c = record {

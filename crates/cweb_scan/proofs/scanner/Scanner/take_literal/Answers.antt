@@ -1,5 +1,4 @@
-use Rattle.std.specs.Prelude.{IfOk}
-use Rattle.cweb_scan.proofs.Common.{ℕ, ◌+◌, List, drop, ap, ◌∙◌, subst, literal_prefix, literal_match, quote_of, AppliesOver, quoted_as, RuleMatch, ◌≡◌}
+use Rattle.cweb_scan.proofs.Common.{ℕ, ◌+◌, List, drop, ap, ◌∙◌, literal_prefix, literal_match, quote_of, quoted_as, ◌≡◌, arith}
 use Rattle.cweb_rules.specs.declared.items.Item.TheVariants.{Literal}
 use Rattle.cweb_scan.proofs.scanner.Scanner.take_literal.Goals as goal
 
@@ -11,8 +10,4 @@ same t quoted p q prefix back quote =
     ∙ (λ i. quoted_as (prefix i + 1) (Literal (quote_of (drop (prefix i) t))) t)
 
 pub returns : goal.returns
-returns c = subst (λ (f : RuleMatch). IfOk c.take_quoted.result (λ n. AppliesOver f c.args.text.now
-    c.args.places.now n c.args.self.now c.take_quoted.new.self))
-    (same c.args.text.now c.split_at.result.1.now c.literal_prefix-prefix.result c.byte.result
-    c.literal_prefix-prefix.ensures.value c.split_at.ensures.back (c.byte.ensures ∙ c.of-quote.ensures))
-    c.take_quoted.ensures
+returns c = grind (arith, same)

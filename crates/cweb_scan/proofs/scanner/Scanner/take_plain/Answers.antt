@@ -1,23 +1,13 @@
-use Rattle.cweb_scan.proofs.Common.{sym, subst}
+use Rattle.cweb_scan.proofs.Common.{sym, subst, arith}
 use Rattle.cweb_scan.proofs.Blanks.{blank_passed}
 use Rattle.cweb_scan.proofs.PlainLexemes.{left_line, none_taken, piece_within, some_ended, some_goes_on, some_taken, TakesSome}
 use Rattle.cweb_scan.proofs.scanner.Scanner.take_plain.Goals as goal
 
 pub invariant_of-take_lexeme-clause-line : goal.invariant_of-take_lexeme-clause-line
-invariant_of-take_lexeme-clause-line c =
-    let text = c.args.rest.now in
-    let old = c.args.self.now in
-    left_line text c.past_blank-piece.result.now old c.pieces.self c.requires.line
-    (subst (λ u. TakesSome text u old c.pieces.self) (sym c.past_blank-piece.ensures)
-    (blank_passed text c.pieces.left.now old c.pieces.self c.requires.line c.pieces.invariant.1 c.pieces.invariant.0))
+invariant_of-take_lexeme-clause-line c = grind (arith, left_line, blank_passed)
 
 pub split_at-requires : goal.split_at-requires
-split_at-requires c =
-    let n = c.in-Some.size in
-    let u = c.past_blank-piece.result.now in
-    piece_within n u c.pieces.self c.take_lexeme.new.self
-    (some_taken n c.in_ok-size.field-0 u c.pieces.self c.take_lexeme.new.self c.in-Some.is
-    c.in_ok-size.ensures.taken.taken)
+split_at-requires c = grind (arith, piece_within, some_taken)
 
 pub pieces-preserved : goal.pieces-preserved
 pieces-preserved c =
@@ -46,8 +36,4 @@ returns-in-None c =
     (none_taken c.in_ok-size.field-0 u c.pieces.self new c.in-None.is c.in_ok-size.ensures.taken.taken)
 
 pub returns-then-is_empty : goal.returns-then-is_empty
-returns-then-is_empty c =
-    let text = c.args.rest.now in
-    let old = c.args.self.now in
-    (subst (λ t. TakesSome text t old c.pieces.self) (sym c.past_blank-piece.ensures) (blank_passed text
-    c.pieces.left.now old c.pieces.self c.requires.line c.pieces.invariant.1 c.pieces.invariant.0)).taken
+returns-then-is_empty c = grind (arith, blank_passed)

@@ -23,17 +23,7 @@ pass_units-requires-clause-lines c = omega (
 )
 
 pub pass_unit-requires-2 : goal.pass_unit-requires-2
-pass_unit-requires-2 c = omega (
-  arith,
-  ap (at_line_ends 1) c.split_at.ensures.front,
-  ap (at_line_ends 1) (append-nil c.split_at.result.0.now),
-  ap (λ (t : List ℕ). at_line_ends 1 (body (reach (look_of c.args.item) Open t))) c.split_at.ensures.back,
-  c.in_ok-left.ensures.lines,
-  c.in_ok-left-2.ensures.lines,
-  ap (at_line_ends 1) (c.split_at-3.ensures.front ∙ ap (take c.reach-reached.result.close) c.split_at-2.ensures.back),
-  quoted_lines c.args.opener c.args.item c.args.text.now c.reach-reached.result _
-      (rw c.split_at.ensures.back at c.reach-reached.ensures.value) c.requires.lines,
-)
+pass_unit-requires-2 c = grind (arith, append-nil, quoted_lines)
 
 pub returns : goal.returns
 returns c =

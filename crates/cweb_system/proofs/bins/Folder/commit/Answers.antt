@@ -1,28 +1,18 @@
-use Rattle.std.proofs.Common.{◌≡◌, ◌∙◌, ap, map, refl, rules, subst, sym, string_bytes, Option, Some}
+use Rattle.std.proofs.Common.{arith}
+use Rattle.std.proofs.Common.{◌≡◌, ◌∙◌, ap, map, refl, sym, string_bytes, Option, Some}
 use Rattle.std.specs.Prelude.{option_map}
 use Rattle.cweb_files.specs.Files.{with_bytes}
-use Rattle.cweb_files.specs.Sinks.{committed, without_draft}
+use Rattle.cweb_files.specs.Sinks.{committed}
 use Rattle.cweb_system.specs.declared.drafts.path.Draft.{Draft}
 use Rattle.cweb_system.specs.declared.written.WrittenFile.{WrittenFile}
 use Rattle.cweb_system.specs.Bins.{draft_bytes, draft_name, file_in}
 use Rattle.cweb_system.specs.Steps.{view}
-use Rattle.cweb_system.specs.inner.FolderSound.{IsDraftSound}
-use Rattle.cweb_system.specs.inner.Written.{Leaves}
 use Rattle.cweb_system.proofs.Models.{bins_contents, model_is}
 use Rattle.cweb_system.proofs.Views.{committing, files_left, leaves_then, stands_then}
 use Rattle.cweb_system.proofs.bins.Folder.commit.Goals as goal
 
 pub returns-in_default-put_in_place-clause-err : goal.returns-in_default-put_in_place-clause-err
-returns-in_default-put_in_place-clause-err g c = model_is g.F.FileSystem.disk _ _ without_draft refl (λ some.
-    let see = view g.F.FileSystem.disk in
-    let ws = c.args.self.now.files.written.items in
-    let old = (see c.args.self.now.fs).tree in
-    let mid = (see c.put_in_place.new.fs).tree in
-    let new = (see c.discard.new.fs).tree in
-    let first : Leaves ws old mid = search rules in
-    let left = files_left ws old new (c.args.self.now.sound.files some)
-    (leaves_then ws old mid new first (c.discard.ensures.leaves.leaves some)) in
-    λ i. bins_contents new (left i) (c.take.ensures.after i) c.args.self.now.refused)
+returns-in_default-put_in_place-clause-err g c = grind (arith, model_is, files_left, leaves_then)
 
 pub invariant_of-self-2 : goal.invariant_of-self-2
 invariant_of-self-2 g c =
@@ -33,8 +23,7 @@ invariant_of-self-2 g c =
         files = λ some. stands_then c.args.self.now.files.written.items c.put.new.self.written.items w
             (string_bytes w.name) (see c.args.self.now.fs).tree (see c.put_in_place.new.fs).tree
             (c.in-Ok.ensures.ok some) refl (c.put.ensures.written (c.in-Ok.ensures.answers.first some));
-        draft = subst (λ (o : Option (Draft g.row.F-File.Denot)). IsDraftSound g.F.FileSystem.disk
-            g.F.FileSystem.key c.put.new.self o c.put_in_place.new.fs) (sym c.take.ensures.after) tt;
+        draft = grind arith;
       };
     }
 

@@ -1,11 +1,9 @@
-use Rattle.cweb_system.specs.Tree.{MayCreate}
+use Rattle.std.proofs.Common.{arith}
 use Rattle.cweb_system.proofs.Steps.{alone_created, keeps, may_create_decent}
 use Rattle.cweb_system.proofs.drafts.steps.create_at.Goals as goal
 
 pub returns-clause-decent : goal.returns-clause-decent
-returns-clause-decent g c read = keeps read (MayCreate g.F.FileSystem.key c.args.path.text.now) c.create.ensures
-    (λ some made. may_create_decent read g.F.FileSystem.key c.args.path.text.now made _ _
-    (c.args.path.name.now, c.args.path.is_draft))
+returns-clause-decent g c read = grind (arith, keeps, may_create_decent)
 
 pub returns-clause-alone : goal.returns-clause-alone
 returns-clause-alone g c some = alone_created g.F.FileSystem.key c.args.path.text.now _ _ c.create.result

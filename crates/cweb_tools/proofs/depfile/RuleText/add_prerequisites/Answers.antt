@@ -9,11 +9,7 @@ pub inputs-preserved : goal.inputs-preserved
 inputs-preserved c =
     let within : c.inputs.at < length c.args.inputs.now = omega (arith, c.inputs-test.true) in
     let position : c.if-at-count.position ≡ position_before (drop (c.inputs.at + 1) (keys_of c.args.inputs.now)) =
-    elim c.if-at-count.branch [
-      | then-at-count w ↦ w.position-is ∙ is_last c.args.inputs.now c.inputs.at w.if-at-count.true
-      | else-at-count w ↦ w.position-is ∙ is_inner c.args.inputs.now c.inputs.at
-          (omega (arith, within, w.if-at-count.false))
-    ] in
+    grind (arith, then-at-count, is_last, else-at-count, is_inner) in
     word_added _ _ c.args.inputs.now c.inputs.at _ c.if-at-count.position _ within position
     (c.in_ok-add_word.ensures ∙ (λ i. add_word (c.in_ok-begin_word.ensures.text i) (c.in_ok-begin_word.ensures.word i)))
     c.inputs.invariant

@@ -1,9 +1,7 @@
-use Rattle.std.proofs.Common.{◌≡◌, refl, ◌<◌, ◌++◌, List, ℕ, [], arith, length, sym, ◌∙◌, ap, append-nil, get_or}
-use Rattle.std.specs.Prelude.{codes, None, take}
+use Rattle.std.proofs.Common.{◌≡◌, ◌<◌, ◌++◌, List, ℕ, [], arith, length, sym, ◌∙◌, ap, append-nil, get_or}
+use Rattle.std.specs.Prelude.{codes, None}
 use Rattle.std.proofs.lemmas.List.{get_or-take, length-take}
 use Rattle.cweb_tools.specs.Depend.{among_outputs}
-use Rattle.cweb_tools.specs.declared.rule_targets.Targets.{Targets}
-use Rattle.cweb_tools.specs.declared.rule_targets.Targets.TheVariants.{All, Main}
 use Rattle.cweb_out.specs.Outputs.{Output}
 use Rattle.cweb_tools.specs.Depfile.{add_word, escaped}
 use Rattle.cweb_tools.specs.declared.depfile.RuleText.{RuleText}
@@ -16,23 +14,13 @@ use Rattle.cweb_tools.proofs.depfile.RuleText.add_targets.Goals.{then-output-out
 abbrev no_output : Output
 no_output = record { name = []; root = None }
 
--- The name of an output that is a target.
-name_among : (targets : Targets) (outputs : List Output) (at : ℕ) → at < length (among_outputs targets outputs)
-    → get_or outputs at no_output ≡ get_or (among_outputs targets outputs) at no_output
-name_among All outputs at within = refl
-name_among Main outputs at within = sym (get_or-take 1 outputs at no_output (first outputs within))
-  where
-    first : (outputs : List Output) → at < length (take 1 outputs) → at < 1
-    first outputs within = omega (arith, within, length-take 1 outputs)
-
 pub targets-preserved : goal.targets-preserved
 targets-preserved c =
     let outputs : List Output = among_outputs c.args.targets c.args.plan.now.outputs in
     let name_of : Output → List ℕ = λ output. output.name in
     let within : c.targets.output < length outputs = omega (arith, c.targets-test.true, c.count-outputs.ensures) in
     let name : c.begin_word.new.self.word.items ≡ escaped Target (name_of (get_or outputs c.targets.output no_output)) =
-    c.in_ok-begin_word.ensures.word ∙ ap (escaped Target) (c.output_name.ensures
-    ∙ ap name_of (name_among c.args.targets c.args.plan.now.outputs c.targets.output within)) in
+    grind (arith, get_or-take, length-take) in
     elim c.if-output-outputs.branch [
       | then-output-outputs+in_ok-push w ↦ target_added name_of outputs c.targets.output _ _ no_output (codes ":") _
           within (is_last_target name_of outputs c.targets.output

@@ -1,5 +1,5 @@
 use Rattle.cweb_log.proofs.Common.{arith, common_steps}
-use Rattle.cweb_log.proofs.shown.Shown.with_word.Goals as goal
+use Rattle.cweb_log.proofs.options.Shown.with_word.Goals as goal
 
 pub returns-in-len1-up : goal.returns-in-len1-up
 returns-in-len1-up c = grind (arith, common_steps)

@@ -1,5 +1,5 @@
 use Rattle.cweb_log.proofs.Common.{◌≡◌, drop, letters_shown}
-use Rattle.cweb_log.proofs.shown.Shown.with_letters.Given as goal
+use Rattle.cweb_log.proofs.options.Shown.with_letters.Given as goal
 
 abbrev pub invariant-letters : goal.invariant-letters
 invariant-letters l =

@@ -1,4 +1,4 @@
-// Finished tokens.
+// What a store asks of its tokens: their bytes, their uses of names, and their size.
 
 ghost use Rattle.std.specs.Prelude.{◌≡◌, ◌<◌, ◌≤◌, ◌^◌, length, slice_get, slice_range, flat_map};
 ghost use Rattle.std.specs.Prelude.{Some};
@@ -12,76 +12,30 @@ ghost use Rattle.cweb_store.specs.inner.Records.{IsNextNumber, is_name_use};
 
 use crate::parts::Part;
 use crate::tokens::Token;
-use crate::tokens::records::{Record, token_at};
-use crate::tokens::token_index::{TokenIndex, next_in_range};
+use crate::tokens::list::TokenList;
+use crate::tokens::token_index::next_in_range;
 use crate::tokens::token_reader::TokenReader;
-use cweb_files::Place;
 use cweb_names::{NameId, NameKind, resolved_at};
-use cweb_texts::StringList;
-use std::marker::Model;
 
-/// Finished tokens as records, their strings, the places of the Marks, and an index of uses and Defs.
-#[derive(Drop)]
-pub struct ClosedTokens {
-    pub(crate) strings: StringList,
-    pub(crate) records: Vec<Record>,
-    pub(crate) places: Vec<Place>,
-    pub(crate) token_index: TokenIndex,
-}
-
-impl Model for ClosedTokens {
-    ghost use Rattle.std.specs.Prelude.{List};
-    ghost use Rattle.cweb_store.specs.Parts as spec;
-
-    ghost Value = { List spec.Token };
-
-    ghost use Rattle.cweb_store.specs.inner.Records.{tokens_of, AreClosed};
-
-    ghost view = { λ s. tokens_of s.strings s.places.items s.records.items };
-
-    ghost invariant = { λ s. AreClosed s.strings s.places.items s.records.items s.token_index };
-}
-
-impl ClosedTokens {
+impl TokenList {
     ghost use Rattle.std.specs.Prelude.{map};
     ghost use Rattle.cweb_store.specs.inner.DirectBytes.{direct_bytes};
-
-    /// The token at an index.
-    #[inline(always)]
-    pub fn token(&self, number: usize) -> Token<'_>
-        requires { number < length self.now }
-        ensures { slice_get self.now number ≡ Some (token_model result) }
-    {
-        token_at(
-            &self.strings,
-            self.places.as_slice(),
-            self.records.as_slice(),
-            number,
-        )
-    }
 
     /// A reader of the tokens' bytes.
     #[inline(always)]
     pub fn token_reader(&self) -> TokenReader<'_>
-        ensures { result ≡ map direct_bytes self.now }
+        ensures { result ≡ map direct_bytes self.now.tokens }
     {
         TokenReader {
             records: self.records.as_slice(),
-            strings: self.strings.slices(),
+            strings: self.strings.strings().slices(),
         }
-    }
-
-    /// The number of tokens.
-    pub fn len(&self) -> usize
-        ensures { result ≡ length self.now }
-    {
-        self.records.len()
     }
 
     /// The index of the first use of a name in a range, or the end of the range if there is none.
     pub fn next_use(&self, part: Part) -> u32
         requires { part.first ≤ part.after }
-        ensures { IsNextNumber is_name_use self.now part result }
+        ensures { IsNextNumber is_name_use self.now.tokens part result }
     {
         next_in_range(self.token_index.uses.as_slice(), part)
     }
@@ -94,10 +48,10 @@ impl ClosedTokens {
         used: &mut [bool],
     )
         requires ordered { part.first ≤ part.after }
-        requires within { part.after ≤ length self.now }
+        requires within { part.after ≤ length self.now.tokens }
         requires known { AreWithin resolutions.now (length used.old) }
         ensures { FlagsToo
-            (λ n. list_any (is_use resolutions.now n) (slice_range self.now part.first part.after))
+            (λ n. list_any (is_use resolutions.now n) (slice_range self.now.tokens part.first part.after))
             used.old used.new }
     {
         let mut next = self.next_use(part);
@@ -114,19 +68,19 @@ impl ClosedTokens {
     /// Whether there is a Defs in a range.
     pub(crate) fn has_defs(&self, part: Part) -> bool
         requires ordered { part.first ≤ part.after }
-        requires within { part.after ≤ length self.now }
-        ensures { result ≡ list_any is_defs (slice_range self.now part.first part.after) }
+        requires within { part.after ≤ length self.now.tokens }
+        ensures { result ≡ list_any is_defs (slice_range self.now.tokens part.first part.after) }
     {
         next_in_range(self.token_index.defs.as_slice(), part) < part.after
     }
 
     /// The number of bytes of all strings.
     pub fn text_bytes(&self) -> usize
-        ensures strings { AreInOneList result (flat_map token_strings self.now) }
-        ensures once { result ≡ interned_token_bytes self.now }
+        ensures strings { AreInOneList result (flat_map token_strings self.now.tokens) }
+        ensures once { result ≡ interned_token_bytes self.now.tokens }
         ensures few { result < 2 ^ 63 }
     {
-        self.strings.text_bytes()
+        self.strings.strings().text_bytes()
     }
 }
 

@@ -1,13 +1,13 @@
 use Rattle.cweb_store.proofs.Common.{◌||◌, ◌∙◌, refl, ap, sym, arith, flag_of, token_model}
 use Rattle.cweb_store.proofs.UseLemmas.{uses-from-next, uses-step}
-use Rattle.cweb_store.proofs.tokens.closed.ClosedTokens.flag_uses.Goals as goal
+use Rattle.cweb_store.proofs.tokens.list.TokenList.flag_uses.Goals as goal
 
 pub uses-init : goal.uses-init
 uses-init c = record {
   within = c.next_use-next.ensures.within;
   size = refl;
   same = λ n. ap (λ b. flag_of c.args.used.now n || b)
-      (sym (uses-from-next c.args.resolutions.now n c.args.self.now c.args.part c.next_use-next.result
+      (sym (uses-from-next c.args.resolutions.now n c.args.self.now.tokens c.args.part c.next_use-next.result
       c.next_use-next.ensures));
 }
 
@@ -21,7 +21,7 @@ uses-preserved c =
           grind (
             arith,
             c.flag_use.ensures.flags n,
-            uses-step c.args.resolutions.now n c.args.self.now c.args.part c.uses.next next.result
+            uses-step c.args.resolutions.now n c.args.self.now.tokens c.args.part c.uses.next next.result
                 (token_model c.token.result) c.token.ensures (omega (arith, c.uses-test.true)) next.ensures,
             c.uses.invariant.same n,
           );
