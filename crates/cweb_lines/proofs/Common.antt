@@ -93,7 +93,7 @@ pub use Rattle.cweb_lines.specs.laws.Laws.{IsPlainSplice, Splice, spliced, web_l
 pub use Rattle.cweb_lines.specs.laws.Laws.{ChangesSplice, WebsWithoutIncludesAreTheirOwnLines}
 pub use Rattle.cweb_lines.specs.laws.MergeOutcome.{outcome_of_events, followed_by, only_lines, MergeOutcome}
 pub use Rattle.cweb_lines.specs.laws.MergeOutcome.{outcome_of_lines, placed, placed_line, only_fault}
-pub use Rattle.cweb_lines.specs.surface.Halting.{halts, merge}
+pub use Rattle.cweb_lines.specs.surface.EnoughSteps.{merge}
 pub use Rattle.cweb_lines.specs.surface.MergeProgress.{SoFar, EmitsLines, ReportsPrefix, ReadsNext, IsAtEnd, Stopped}
 pub use Rattle.cweb_lines.specs.surface.MergeProgress.{pending_of, so_far_of, IsPrefix, KeepsReported, change_lines}
 pub use Rattle.cweb_lines.specs.surface.MergeProgress.{events_to_come, things_of, NothingLeft, StopsAfterLines}

@@ -1,9 +1,10 @@
 -- The events of a merge don't depend on the number of steps.
-use Rattle.std.proofs.Common.{◌≡◌, ℕ, zero, suc, List, [], ◌++◌, Option, Some, None, refl, sym, ◌∙◌, ap}
+use Rattle.std.proofs.Common.{◌≡◌, ℕ, zero, suc, List, [], ◌++◌, Option, Some, None, refl, sym, ◌∙◌, ap, unwrap_or, arith}
 use Rattle.cweb_input.specs.Include.{World}
 use Rattle.cweb_lines.specs.Events.{Event}
 use Rattle.cweb_lines.specs.Merge.{MergeStateModel, Next, step, onto, step_then_run, run_steps, Yields}
-use Rattle.cweb_lines.specs.surface.Halting.{halts, halts_next, merge}
+use Rattle.cweb_lines.specs.surface.EnoughSteps.{enough_steps, merge}
+use Rattle.cweb_lines.proofs.Halting.{comes}
 
 onto_some : (events all : List Event) (later : Option (List Event)) → onto events later ≡ Some all →
     (rest : List Event) × (later ≡ Some rest) × (events ++ rest ≡ all)
@@ -28,23 +29,24 @@ run_steps_unique (suc m) (suc n) world s a b one other = by (step world s) one o
         let y = onto_some next.0 b (run_steps n world next.1) other in
         sym x.2 ∙ ap (λ (es : List Event). next.0 ++ es) (later next.1 x.0 y.0 x.1 y.1) ∙ y.2
 
+pub merge_yields : (world : World) (s : MergeStateModel) → Yields world s (merge world s)
+unfolding merge
+merge_yields world s =
+    let all = comes (enough_steps world s) world s (omega arith) in
+    (enough_steps world s, all.1 ∙ ap (λ (o : Option (List Event)). Some (unwrap_or o [])) (sym all.1))
+
 pub merge-run_steps : (n : ℕ) (world : World) (s : MergeStateModel) (events : List Event)
     → run_steps n world s ≡ Some events →
     merge world s ≡ events
-unfolding merge
-merge-run_steps n world s events is = run_steps_unique (halts world s).steps n world s (halts world s).events events
-    (halts world s).comes is
-
-pub merge_yields : (world : World) (s : MergeStateModel) → Yields world s (merge world s)
-unfolding merge
-merge_yields world s = ((halts world s).steps, (halts world s).comes)
+merge-run_steps n world s events is =
+    let all = merge_yields world s in run_steps_unique all.0 n world s (merge world s) events all.1 is
 
 pub merge_end : (world : World) (s : MergeStateModel) → step world s ≡ None → merge world s ≡ []
 merge_end world s is = merge-run_steps 1 world s [] (ap (λ o. step_then_run o (λ s'. run_steps 0 world s')) is)
 
 pub merge_next : (world : World) (s : MergeStateModel) (next : Next) → step world s ≡ Some next →
     merge world s ≡ next.0 ++ merge world next.1
-unfolding merge halts_next
 merge_next world s next is =
-    let h = halts_next world s next is (halts world next.1) in
-    merge-run_steps h.steps world s h.events h.comes
+    let later = merge_yields world next.1 in
+    merge-run_steps (suc later.0) world s (next.0 ++ merge world next.1)
+    (ap (λ o. step_then_run o (λ s'. run_steps later.0 world s')) is ∙ ap (onto next.0) later.1)

@@ -1,5 +1,5 @@
 -- An include line is replaced by the merged lines of its file.
-use Rattle.cweb_lines.proofs.Common.{rules, ◌≡◌, ◌≢◌, ◌<◌, ◌+◌, ℕ, Bool, true, false, List, [], ◌∷◌, ◌++◌, None, Some, refl, sym, ◌∙◌, ap, append-nil, subst, arith, length, nat_tests, AllByRecursion, nat_lt, SourceLine, lines_in, World, include_name, is_include_line, at_place, IncludeLinesAreReplaced, Includes, LinesComeApart, MergeOutcome, followed_by, outcome_of_events, outcome_of_lines, Event, Next, RawLine, MergeStateModel, Thing, fault, emitted, included, obeyed, open_include, opening, plain, raw, raws, taking, took, openings, merge, merge-run_steps, merge_end, merge_next, halts, NoName, NotThere, TooDeep, OPEN_FILES}
+use Rattle.cweb_lines.proofs.Common.{rules, ◌≡◌, ◌≢◌, ◌<◌, ◌+◌, ℕ, Bool, true, false, List, [], ◌∷◌, ◌++◌, None, Some, refl, ◌∙◌, ap, append-nil, subst, arith, length, nat_tests, AllByRecursion, nat_lt, SourceLine, lines_in, World, include_name, is_include_line, at_place, IncludeLinesAreReplaced, Includes, LinesComeApart, MergeOutcome, followed_by, outcome_of_events, outcome_of_lines, Event, Next, RawLine, MergeStateModel, Thing, fault, emitted, included, obeyed, open_include, opening, plain, raw, raws, taking, took, openings, merge, merge_yields, merge_end, merge_next, NoName, NotThere, TooDeep, OPEN_FILES}
 use Rattle.cweb_lines.proofs.IndependentLines.{IsNoSearch, prefix, raws_seek_not}
 use Rattle.cweb_lines.proofs.Merges.{state}
 use Rattle.cweb_input.proofs.SourceStacks.{raws-append}
@@ -17,10 +17,8 @@ pub in_two : (world : World) (things later : List Thing) (change : List SourceLi
     ≡ first ++ merge world (state later None change (files + length (openings first)))
 in_two world things later change files none =
     let s = state things None change files in
-    let first = halts world s in
-    prefix world later change first.steps files things first.events none first.comes
-    ∙ ap (λ (es : List Event). es ++ merge world (state later None change (files + length (openings es))))
-    (sym (merge-run_steps first.steps world s first.events first.comes))
+    let first = merge_yields world s in
+    prefix world later change first.0 files things (merge world s) none first.1
 
 names_some : (world : World) (r : RawLine) (s : MergeStateModel) (things : List Thing) (next : Next) (b : Bool)
     → is_include_line r.source.line.bytes ≡ true → include_name r.source.line.bytes ≢ [] → nat_lt r.depth OPEN_FILES ≡ b

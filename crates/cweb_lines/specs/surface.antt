@@ -2,4 +2,4 @@
 pub mod Writing
 pub mod MergerCalls
 pub mod MergeProgress
-pub mod Halting
+pub mod EnoughSteps

@@ -46,7 +46,7 @@ pub use Rattle.cweb_lines.proofs.Terms.{begun_with}
 pub use Rattle.cweb_lines.proofs.EnoughSteps.{merge-run_steps}
 pub use Rattle.cweb_lines.specs.surface.MergeProgress.{SoFar, EmitsLines, StopsAfterLines, ReportsPrefix}
 pub use Rattle.cweb_lines.specs.surface.MergerCalls.{BeginsMerge, StopsAtStart, so_far}
-pub use Rattle.cweb_lines.specs.surface.Halting.{merge}
+pub use Rattle.cweb_lines.specs.surface.EnoughSteps.{merge}
 pub use Rattle.cweb_log.specs.CommandLine.{OptionsModel, options_by, shown_by_default, WebNames, web_names_by}
 pub use Rattle.cweb_log.specs.DeviceModels.{Devices, FailedReads, Logs, contents_of, devices, failed_reads, log_failed, logged}
 pub use Rattle.cweb_log.specs.Items.{line, LogItem, is_fault, source_item, fault, starred}

@@ -3,7 +3,7 @@ use Rattle.std.specs.Prelude.{◌≡◌, ◌<◌, ◌≤◌, ◌+◌, ◌*◌, �
 use Rattle.cweb_input.specs.Lines.{Line, SourceLine}
 use Rattle.cweb_input.specs.surface.OpenedFileNames.{IsOneLine, world_in}
 use Rattle.cweb_lines.specs.Events.{Event, took, written_lines}
-use Rattle.cweb_lines.specs.surface.Halting.{merge}
+use Rattle.cweb_lines.specs.surface.EnoughSteps.{merge}
 use Rattle.cweb_lines.specs.inner.Stages.{weight_of}
 use Rattle.cweb_input.specs.inner.OpenSources.{raw_thing}
 use Rattle.cweb_lines.specs.declared.merge_state.MergeState.{MergeState}

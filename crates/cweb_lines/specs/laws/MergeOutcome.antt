@@ -7,7 +7,7 @@ use Rattle.cweb_input.specs.Include.{World}
 use Rattle.cweb_lines.specs.Change.{at_place}
 use Rattle.cweb_lines.specs.Events.{Event, emitted_lines, reported_faults, openings}
 use Rattle.cweb_lines.specs.Merge.{started, MergeStateModel, Yields}
-use Rattle.cweb_lines.specs.surface.Halting.{merge}
+use Rattle.cweb_lines.specs.surface.EnoughSteps.{merge}
 use Rattle.cweb_input.specs.declared.fault.SourceFault.{SourceFault}
 use Rattle.cweb_input.specs.declared.fault.SourceKind.{SourceKind}
 

@@ -15,7 +15,7 @@ use Rattle.cweb_input.specs.declared.fault.SourceFault.{SourceFault}
 use Rattle.cweb_input.specs.declared.fault.SourceKind.{SourceKind}
 use Rattle.cweb_input.specs.declared.fault.SourceKind.TheVariants.{NoOldLines, EndedBeforeY, EndedBeforeZ, NoMatch}
 use Rattle.cweb_input.specs.declared.stop.Stop.{Stop}
-use Rattle.cweb_lines.specs.surface.Halting.{merge}
+use Rattle.cweb_lines.specs.surface.EnoughSteps.{merge}
 use Rattle.cweb_input.specs.surface.OpenedFileNames.{world_in, opened_file_names}
 use Rattle.cweb_lines.specs.declared.merge_state.MergeState.{MergeState}
 use Rattle.cweb_input.specs.declared.stop.Stop.TheVariants.{ReadFault, LineTooLong, TooMuchText, Memory}

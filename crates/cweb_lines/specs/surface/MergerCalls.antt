@@ -13,7 +13,7 @@ use Rattle.cweb_lines.specs.Events.{Event, emitted_lines}
 use Rattle.cweb_lines.specs.Merge.{started}
 use Rattle.cweb_lines.specs.surface.MergeProgress.{SoFar, EmitsLines, KeepsReported, NothingLeft, Stopped}
 use Rattle.cweb_lines.specs.surface.MergeProgress.{ReportsPrefix, so_far_of, events_to_come}
-use Rattle.cweb_lines.specs.surface.Halting.{merge}
+use Rattle.cweb_lines.specs.surface.EnoughSteps.{merge}
 use Rattle.cweb_input.specs.declared.limits.TheConstants.{LINES, BYTES}
 use Rattle.cweb_lines.specs.declared.merger.Merger.{Merger}
 use Rattle.cweb_input.specs.declared.stop.Stop.{Stop}

@@ -7,7 +7,7 @@ use Rattle.cweb_tools.specs.Acts.{Act, Ending, ending, PerformsActs, RunEnds, Fo
 use Rattle.cweb_input.specs.declared.stop.Stop.{Stop}
 use Rattle.cweb_input.specs.Include.{names_found, contents_found, World, Found, web_at, change_at}
 use Rattle.cweb_lines.specs.Merge.{started}
-use Rattle.cweb_lines.specs.surface.Halting.{merge}
+use Rattle.cweb_lines.specs.surface.EnoughSteps.{merge}
 use Rattle.cweb_log.specs.CommandLine.{WebNames}
 use Rattle.cweb_tools.specs.Course.{Course, unread, not_there, change_not_there, merging, change_name}
 use Rattle.cweb_tools.specs.MergeActs.{MergeCanCome, merge_acts, merge_devices}
