@@ -1,4 +1,7 @@
 // The calls of a builder, and what the store answers.
+ghost use Rattle.std.specs.Prelude.{◌≡◌};
+ghost use Rattle.cweb_store.specs.Calls.{empty};
+
 use super::types::token_number;
 use super::wanted::{holds, same_bytes};
 use cweb_store::{
@@ -30,8 +33,9 @@ fn push_word(builder: &mut Builder, word: &[u8]) -> Result<(), AllocError> {
 }
 
 // A file name with a part, which uses a name without one, and a macro.
-pub fn small_store(alloc: Global) -> Result<Store, AllocError> {
-    let mut builder = Builder::new(alloc);
+fn add_file(builder: &mut Builder) -> Result<(), AllocError>
+    requires { builder.old ≡ empty }
+{
     let file = builder.occurrence(b"a.h", How::Full, true)?;
     builder.open_part(PartKind::Named(file))?;
     builder.push(Token::Word(b"x"))?;
@@ -41,7 +45,12 @@ pub fn small_store(alloc: Global) -> Result<Store, AllocError> {
     builder.drop_layout();
     builder.close_part();
     builder.transliterate(0xfc, b"ue")?;
-    add_part(&mut builder, PartKind::Macro, &[b"M"])?;
+    add_part(builder, PartKind::Macro, &[b"M"])
+}
+
+pub fn small_store(alloc: Global) -> Result<Store, AllocError> {
+    let mut builder = Builder::new(alloc);
+    add_file(&mut builder)?;
     builder.finish()
 }
 

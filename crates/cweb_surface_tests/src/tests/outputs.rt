@@ -3,10 +3,11 @@ ghost use Rattle.std.specs.Prelude.{◌<◌};
 
 use super::wanted::{holds, same_text};
 use cweb_lines::{MemoryShelf, Merger, Stop};
-use cweb_out::{Expander, PlanFault, plan};
+use cweb_out::{Expander, Plan, PlanFault, plan};
 use cweb_scan::{Scanned, scan};
 use cweb_store::{Store, Token};
 use std::alloc::Global;
+use std::process::Abort;
 
 /// The number of words in the first output of a store, with all names expanded.
 pub fn count_words(alloc: Global, store: &Store, main: &str) -> Result<u32, PlanFault> {
@@ -50,23 +51,25 @@ pub fn scanned(alloc: Global, text: &[u8]) -> Result<ScannedWeb, Stop> {
     Ok(ScannedWeb { made, merger })
 }
 
-#[test]
-fn names_used_twice_are_expanded_twice(rt: HostRuntime) {
-    let web = scanned(rt.alloc(), DOUBLING).expect(&rt, "scanned");
-    match count_words(rt.alloc(), &web.made.store, "t.c") {
-        Ok(words) => holds(&rt, words == 16),
-        Err(_) => holds(&rt, false),
+fn has_one_output(rt: &impl Abort, plan: &Plan) {
+    holds(rt, plan.outputs() == 1);
+    same_text(rt, plan.output_name(0), "t.c");
+    holds(rt, !plan.no_text());
+}
+
+fn check_doubling(rt: &impl Abort, alloc: Global, store: &Store) {
+    match count_words(alloc, store, "t.c") {
+        Ok(words) => holds(rt, words == 16),
+        Err(_) => holds(rt, false),
+    }
+    match plan(alloc, store, "t.c") {
+        Ok(plan) => has_one_output(rt, &plan),
+        Err(_) => holds(rt, false),
     }
 }
 
 #[test]
-fn outputs_of_a_plan(rt: HostRuntime) {
+fn names_used_twice_are_expanded_twice(rt: HostRuntime) {
     let web = scanned(rt.alloc(), DOUBLING).expect(&rt, "scanned");
-    let Ok(plan) = plan(rt.alloc(), &web.made.store, "t.c") else {
-        holds(&rt, false);
-        return;
-    };
-    holds(&rt, plan.outputs() == 1);
-    same_text(&rt, plan.output_name(0), "t.c");
-    holds(&rt, !plan.no_text());
+    check_doubling(&rt, rt.alloc(), &web.made.store);
 }

@@ -12,7 +12,9 @@ use crate::ByteSink;
 use cweb_lines::{FileNames, Sink, SinkFault};
 use cweb_out::{Expander, plan};
 use cweb_print::{OutBuffer, Printer};
-use cweb_store::Token;
+use cweb_store::{Store, Token};
+use std::alloc::Global;
+use std::process::Abort;
 
 /// Whether a line mark is of a file that was opened.
 fn is_named(names: &FileNames, token: &Token<'_>) -> bool
@@ -57,18 +59,29 @@ const WEB: &[u8] = b"@ @c\nint x; @<Rest@>\n@ @<Rest@>=\nint y;\n";
 const PRINTED: &[u8] =
     b"/*1:*/\n#line 1 \"t.w\"\n\nint x;/*2:*/\n#line 3 \"t.w\"\n\nint y;/*:2*/\n#line 2 \"t.w\"\n\n/*:1*/\n";
 
+fn check_printed(rt: &impl Abort, alloc: Global, expander: &mut Expander<'_>, names: &FileNames)
+    requires { IsFrameStack expander.old.store.now expander.old.frames.items
+        (vec_capacity expander.old.frames) }
+{
+    let mut buffer = OutBuffer::new(alloc).expect(rt, "memory");
+    let mut out = ByteSink::new(alloc);
+    let ended = print_all(expander, names, &mut buffer, &mut out);
+    holds(rt, ended.is_ok());
+    same_bytes(rt, out.bytes.as_slice(), PRINTED);
+}
+
+fn check_web(rt: &impl Abort, alloc: Global, store: &Store, names: &FileNames) {
+    let Ok(plan) = plan(alloc, store, "t.c") else {
+        holds(rt, false);
+        return;
+    };
+    holds(rt, plan.outputs() == 1);
+    let mut expander = Expander::new(alloc, store, &plan, 0).expect(rt, "memory");
+    check_printed(rt, alloc, &mut expander, names);
+}
+
 #[test]
 fn an_output_goes_through_the_buffer_to_an_own_sink(rt: HostRuntime) {
     let web = scanned(rt.alloc(), WEB).expect(&rt, "scanned");
-    let Ok(plan) = plan(rt.alloc(), &web.made.store, "t.c") else {
-        holds(&rt, false);
-        return;
-    };
-    holds(&rt, plan.outputs() == 1);
-    let mut expander = Expander::new(rt.alloc(), &web.made.store, &plan, 0).expect(&rt, "memory");
-    let mut buffer = OutBuffer::new(rt.alloc()).expect(&rt, "memory");
-    let mut out = ByteSink::new(rt.alloc());
-    let ended = print_all(&mut expander, web.merger.names(), &mut buffer, &mut out);
-    holds(&rt, ended.is_ok());
-    same_bytes(&rt, out.bytes.as_slice(), PRINTED);
+    check_web(&rt, rt.alloc(), &web.made.store, web.merger.names());
 }

@@ -8,10 +8,18 @@ use std::alloc::{AllocError, Global};
 /// The number of sections, and the names of the web, one per line.
 pub fn outline<S: Shelf>(alloc: Global, shelf: &mut S, web: &str) -> Result<(u32, Vec<u8>), Stop> {
     let mut merger = Merger::start(alloc, shelf, web, None, None, None)?;
+    outline_of(alloc, shelf, &mut merger)
+}
+
+fn outline_of<S: Shelf>(
+    alloc: Global,
+    shelf: &mut S,
+    merger: &mut Merger<S>,
+) -> Result<(u32, Vec<u8>), Stop> {
     if shelf.failures() == u64::MAX {
         return Err(merger.halt());
     }
-    let scanned = scan(alloc, &mut merger, shelf)?;
+    let scanned = scan(alloc, merger, shelf)?;
     Ok((scanned.sections, names(alloc, &scanned.store)?))
 }
 
