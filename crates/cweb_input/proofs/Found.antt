@@ -35,7 +35,3 @@ IfOk-map (Err e) f p = p
 pub OnOk-map : {A E P Q : Type 0} (r : Result A E) → (P → Q) → OnOk r P → OnOk r Q
 OnOk-map (Ok x) f p = f p
 OnOk-map (Err e) f p = p
-
-pub OnOk-both : {A E P Q T : Type 0} (r : Result A E) → (P → Q → T) → OnOk r P → OnOk r Q → OnOk r T
-OnOk-both (Ok x) f p q = f p q
-OnOk-both (Err e) f p q = p

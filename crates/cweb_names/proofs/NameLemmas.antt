@@ -7,11 +7,7 @@ pub bytes_eq-same : (a : List ℕ) → bytes_eq a a ≡ true
 bytes_eq-same a = (bytes_eq-Decides a a).1 refl
 
 pub bytes_eq-sym : (a b : List ℕ) → bytes_eq a b ≡ bytes_eq b a
-bytes_eq-sym a b = grind (arith, bytes_eq-Decides b a, bytes_eq-Decides a b, no_more (bytes_eq b a))
-  where
-    no_more : (v : Bool) → (v ≡ true → false ≡ true) → v ≡ false
-    no_more true f = sym (f refl)
-    no_more false f = refl
+bytes_eq-sym a b = grind (arith, bytes_eq-Decides)
 
 -- The item at an index, and the rest after it.
 pub record Prefix {X : Type 0} (xs : List X) (i : ℕ) : Type 0 where
@@ -22,8 +18,7 @@ pub record Prefix {X : Type 0} (xs : List X) (i : ℕ) : Type 0 where
 pub prefix_at : {X : Type 0} (xs : List X) (i : ℕ) → i < length xs → Prefix xs i
 prefix_at [] i h = absurd (omega arith)
 prefix_at (x ∷ xs) zero h = record { item = x; there = refl; prefix = refl }
-prefix_at (x ∷ xs) (suc i) h =
-    let rest = prefix_at xs i (omega arith) in record { item = rest.item; there = rest.there; prefix = rest.prefix }
+prefix_at (x ∷ xs) (suc i) h = grind (arith, prefix_at xs i (omega arith))
 
 pub record Neither (a b : Bool) : Type 0 where
   pub left : a ≡ false

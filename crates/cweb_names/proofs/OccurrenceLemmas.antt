@@ -1,5 +1,5 @@
 -- The names of occurrences, and what they resolve to.
-use Rattle.cweb_names.proofs.Common.{◌≡◌, ℕ, ◌+◌, ◌≤◌, Bool, true, false, cond, not, ◌||◌, List, [], ◌∷◌, ◌++◌, length, refl, sym, ◌∙◌, ap, arith, length-append, append_assoc, append-nil, Err, bytes_eq, if◌then◌else◌, list_any, position_or_len, map-append, How, Full, Prefix, NameId, NeverFull, Occurrence, Name, Resolution, spellings, with_full_name, with_occurrence_name, names_from, names, beginning, the_one, resolved_among, found_of, early, by_found}
+use Rattle.cweb_names.proofs.Common.{◌≡◌, ℕ, ◌+◌, ◌≤◌, Bool, true, false, cond, not, ◌||◌, List, [], ◌∷◌, ◌++◌, length, refl, sym, ap, arith, length-append, append_assoc, append-nil, Err, bytes_eq, list_any, position_or_len, map-append, How, Full, Prefix, NameId, NeverFull, Occurrence, Name, Resolution, spellings, with_full_name, with_occurrence_name, names_from, names, beginning, the_one, resolved_among, found_of, early, by_found}
 use Rattle.cweb_names.proofs.NameLemmas.{bytes_eq-same}
 
 with_text-few : (i : ℕ) (ns : List Name) (text : List ℕ) → length (with_full_name i ns text) ≤ length ns + 1
@@ -10,8 +10,7 @@ with_name-few i ns o = grind (arith, with_text-few i ns o.text)
 
 names_from-few : (i : ℕ) (ns : List Name) (os : List Occurrence) → length (names_from i ns os) ≤ length ns + length os
 names_from-few i ns [] = omega arith
-names_from-few i ns (o ∷ os) =
-    omega (arith, names_from-few (i + 1) (with_occurrence_name i ns o) os, with_name-few i ns o)
+names_from-few i ns (o ∷ os) = grind (arith, names_from-few (i + 1) (with_occurrence_name i ns o) os, with_name-few)
 
 pub names-few : (os : List Occurrence) → length (names os) ≤ length os
 names-few os = omega (arith, names_from-few 0 [] os)
@@ -21,24 +20,15 @@ pub record Grows (old new : List Name) : Type 0 where
   pub grows : new ≡ old ++ more
 
 with_text-grows : (i : ℕ) (ns : List Name) (text : List ℕ) → Grows ns (with_full_name i ns text)
-with_text-grows i ns text =
-    let n : Name = record { text = text; first = i } in
-    elim (list_any (bytes_eq text) (spellings ns)) as (λ b. Grows ns (if b then ns else ns ++ n ∷ []))
-    [ true ↦ record { more = []; grows = sym (append-nil ns) } | false ↦ record { more = n ∷ []; grows = refl } ]
+with_text-grows i ns text = grind (arith, append-nil)
 
 pub with_name-grows : (i : ℕ) (ns : List Name) (o : Occurrence) → Grows ns (with_occurrence_name i ns o)
-with_name-grows i ns o = elim o.how as (λ how. Grows ns (elim how [ Full ↦ with_full_name i ns o.text | Prefix ↦ ns ]))
-    [ Full ↦ with_text-grows i ns o.text | Prefix ↦ record { more = []; grows = sym (append-nil ns) } ]
+with_name-grows i ns o = grind (arith, with_text-grows, append-nil)
 
 pub names_from-grows : (i : ℕ) (ns : List Name) (os : List Occurrence) → Grows ns (names_from i ns os)
 names_from-grows i ns [] = record { more = []; grows = sym (append-nil ns) }
 names_from-grows i ns (o ∷ os) =
-    let one = with_name-grows i ns o in
-    let rest = names_from-grows (i + 1) (with_occurrence_name i ns o) os in
-    record {
-      more = one.more ++ rest.more;
-      grows = rest.grows ∙ ap (λ ms. ms ++ rest.more) one.grows ∙ append_assoc ns one.more rest.more;
-    }
+    grind (arith, with_name-grows, names_from-grows (i + 1) (with_occurrence_name i ns o) os, append_assoc)
 
 strings-append : (ns ms : List Name) → spellings (ns ++ ms) ≡ spellings ns ++ spellings ms
 strings-append ns ms = map-append (λ (m : Name). m.text) ns ms
@@ -59,14 +49,12 @@ position-last p (x ∷ xs) y h none = grind (arith, p x, position-last p xs y h)
 
 pub with_text-has : (i : ℕ) (ns : List Name) (text : List ℕ)
     → list_any (bytes_eq text) (spellings (with_full_name i ns text)) ≡ true
-with_text-has i ns text =
-    grind (arith, strings-append ns, any-last (bytes_eq text) (spellings ns) text (bytes_eq-same text))
+with_text-has i ns text = grind (arith, strings-append, any-last, bytes_eq-same)
 
 with_text-position : (i : ℕ) (ns : List Name) (text : List ℕ)
     → position_or_len (bytes_eq text) (spellings (with_full_name i ns text))
     ≡ position_or_len (bytes_eq text) (spellings ns)
-with_text-position i ns text =
-    grind (arith, strings-append ns, position-last (bytes_eq text) (spellings ns) text (bytes_eq-same text))
+with_text-position i ns text = grind (arith, strings-append, position-last, bytes_eq-same)
 
 pub position-grows : (text : List ℕ) (old new : List Name) → Grows old new
     → list_any (bytes_eq text) (spellings old) ≡ true

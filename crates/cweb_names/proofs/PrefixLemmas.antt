@@ -33,11 +33,7 @@ pub from-begins : (p : List ℕ) (es : List NameEntry)
     → filter (entry_has_prefix p) (filter (λ (e : NameEntry). is_le (slice_cmp nat_cmp p e.0) && true) es)
     ≡ filter (entry_has_prefix p) es
 from-begins p [] = refl
-from-begins p (e ∷ es) = grind (arith, from-begins p es, no_begin, begins-le p)
-  where
-    no_begin : (b : Bool) → (b ≡ true → b ≡ false) → b ≡ false
-    no_begin true f = f refl
-    no_begin false f = refl
+from-begins p (e ∷ es) = grind (arith, from-begins p es, begins-le)
 
 abbrev from : List ℕ → List NameEntry → List NameEntry
 from p es = filter (λ (e : NameEntry). is_le (slice_cmp nat_cmp p e.0) && true) es

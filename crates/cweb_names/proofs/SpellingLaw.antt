@@ -10,7 +10,7 @@ use Rattle.cweb_texts.specs.Edges.{first_is}
 use Rattle.cweb_names.specs.inner.Squeezing.{is_squeezed, is_squeezed_after}
 use Rattle.cweb_names.specs.Names.{squeezed, squeezed_after}
 use Rattle.cweb_names.specs.laws.Names.{is_other, HasSingleBlanks, SpellingsAreSqueezed}
-use Rattle.cweb_names.proofs.Squeezing.{squeezed_by, fits_by, squeezed_stays}
+use Rattle.cweb_names.proofs.Squeezing.{fits_by, squeezed_stays}
 
 -- The rest after a byte that isn't white, and after white space.
 abbrev Fits : List ℕ → Type 0
@@ -54,9 +54,7 @@ white-span : (begun : Bool) (gap t : List ℕ) → list_all is_white gap ≡ tru
     squeezed_after begun blank (gap ++ t) ≡ squeezed_after begun blank t
 white-span begun [] t h = refl
 white-span begun (b ∷ gap) t h =
-    let p = and_parts (is_white b) (list_all is_white gap) h in
-    let blank = if begun then codes " " else [] in
-    ap (λ w. squeezed_by w begun blank b (gap ++ t)) p.0 ∙ white-span begun gap t p.1
+    grind (arith, and_parts, white-span begun gap t (and_parts (is_white b) (list_all is_white gap) h).1)
 
 spans-after : (begun : Bool) (gap before span t : List ℕ) (b : ℕ) → is_white b ≡ true → list_all is_white span ≡ true
     → squeezed_after begun gap (before ++ b ∷ (span ++ t)) ≡ squeezed_after begun gap (before ++ 32 ∷ t)
@@ -90,11 +88,7 @@ no-blanks [] b after e = cc
 no-blanks (x ∷ before) b after e = cc
 
 spelling-single : (t : List ℕ) → HasSingleBlanks (squeezed t)
-spelling-single t before b after e w = elim (spelling-fits t) [
-  | inl none ↦ absurd (no-blanks before b after (sym none ∙ e))
-  | inr h ↦
-      let r = single-after true before b after (ap is_squeezed (sym e) ∙ h) w in (r.0, r.1 refl, r.2)
-]
+spelling-single t before b after e w = grind (arith, spelling-fits, inl, no-blanks, inr, single-after)
 
 -- A text with single blanks stays.
 

@@ -1,5 +1,5 @@
 -- The spelling of a name, byte by byte.
-use Rattle.cweb_names.proofs.Common.{◌≡◌, ℕ, Bool, true, false, ◌&&◌, not, List, [], ◌∷◌, ◌++◌, refl, ap, sym, ◌∙◌, if◌then◌else◌, eqb-true}
+use Rattle.cweb_names.proofs.Common.{◌≡◌, ℕ, Bool, true, false, ◌&&◌, not, List, [], ◌∷◌, ◌++◌, refl, ap, if◌then◌else◌, arith}
 use Rattle.std.proofs.Common.{◌==◌}
 use Rattle.std.specs.Prelude.{codes}
 use Rattle.cweb_rules.specs.Bytes.{is_white}
@@ -28,8 +28,7 @@ Stays t = (is_squeezed_after false t ≡ true → squeezed_after true [] t ≡ t
     (is_squeezed_after true t ≡ true → squeezed_after true (codes " ") t ≡ 32 ∷ t)
 
 after_byte : (w : Bool) (b : ℕ) (t : List ℕ) → Stays t → fits_by w false b t ≡ true → squeezed_by w true [] b t ≡ b ∷ t
-after_byte true b t s h =
-    let p = and_parts (b == 32) (is_squeezed_after true t) h in s.1 p.1 ∙ ap (λ n. n ∷ t) (sym (eqb-true b 32 p.0))
+after_byte true b t s h = grind (arith, and_parts)
 after_byte false b t s h = ap (λ u. b ∷ u) (s.0 h)
 
 after_blank : (w : Bool) (b : ℕ) (t : List ℕ) → Stays t → fits_by w true b t ≡ true
@@ -39,8 +38,7 @@ after_blank false b t s h = ap (λ u. 32 ∷ b ∷ u) (s.0 h)
 
 stays : (t : List ℕ) → Stays t
 stays [] = (λ h. refl, λ h. cc)
-stays (b ∷ t) =
-    let s = stays t in (λ h. after_byte (is_white b) b t s h, λ h. after_blank (is_white b) b t s h)
+stays (b ∷ t) = grind (arith, stays t, after_byte, after_blank)
 
 first_stays : (w : Bool) (b : ℕ) (t : List ℕ) → Stays t → fits_by w true b t ≡ true → squeezed_by w false [] b t ≡ b ∷ t
 first_stays true b t s h = cc

@@ -1,5 +1,5 @@
 -- A literal ends at its quote, whatever follows.
-use Rattle.cweb_rules.proofs.Common.{◌≡◌, ℕ, ◌+◌, ◌-◌, ◌<◌, ◌≤◌, suc, zero, Bool, true, false, cond, ◌&&◌, ◌||◌, ◌==◌, List, [], ◌∷◌, ◌++◌, length, take, drop, refl, ap, sym, ◌∙◌, subst, arith, codes, eqb-true, begins, at_line_end, in_c, Reach, reach_in, with_unit, reach_size, Look, Goes, Ends, reach_of_literal, look_in_literal, Closed, Cut, c_match, literal_match, quoted_match, has_quote_at, literal_prefix, starts_literal, quote_of, starts_raw, raw_match, and_parts, and-false, drop-append-le}
+use Rattle.cweb_rules.proofs.Common.{◌≡◌, ℕ, ◌+◌, ◌-◌, ◌<◌, ◌≤◌, suc, zero, Bool, true, false, cond, ◌&&◌, ◌||◌, ◌==◌, List, [], ◌∷◌, ◌++◌, length, take, drop, refl, ap, sym, ◌∙◌, arith, codes, eqb-true, begins, at_line_end, in_c, Reach, reach_in, with_unit, reach_size, Look, Goes, Ends, reach_of_literal, look_in_literal, Closed, Cut, c_match, literal_match, quoted_match, has_quote_at, literal_prefix, starts_literal, quote_of, starts_raw, raw_match, and_parts, and-false, drop-append-le}
 use Rattle.cweb_rules.proofs.Chosen.{Passed, passed_prefix}
 use Rattle.cweb_rules.proofs.Raws.{quoted_stays, raw_stays, ends_raw}
 use Rattle.cweb_rules.proofs.Stays.{opening, opens, is_letter_first}
@@ -52,8 +52,7 @@ either true b P h f g = f refl
 either false b P h f g = g h
 
 pub is_a_quote : (b : ℕ) (P : ℕ → Type 0) → has_quote_at 0 (b ∷ []) ≡ true → P 34 → P 39 → P b
-is_a_quote b P h x y = either ((34 == b) && true) ((39 == b) && true) (P b) h (λ e. subst P
-    (eqb-true 34 b (and_parts (34 == b) true e).0) x) (λ e. subst P (eqb-true 39 b (and_parts (39 == b) true e).0) y)
+is_a_quote b P h x y = grind (arith, either, and_parts)
 
 quote_first : (b : ℕ) (t u : List ℕ) → has_quote_at 0 (b ∷ []) ≡ true → literal_prefix (b ∷ t) ≡ literal_prefix (b ∷ u)
 quote_first b t u h = is_a_quote b (λ n. literal_prefix (n ∷ t) ≡ literal_prefix (n ∷ u)) h refl refl
@@ -95,14 +94,7 @@ inside n t = reach_of_literal (quote_of (drop n t)) (drop (n + 1) t)
 literal_with : (n : ℕ) (t more : List ℕ) → has_quote_at n t ≡ true
     → (inside n t).how ≡ Closed → (n + 1) + reach_size (inside n t) ≤ length t
     → quoted_match (n + 1) (inside n (t ++ more)) (t ++ more) ≡ quoted_match (n + 1) (inside n t) t
-literal_with n t more q closed within =
-    grind (
-      arith,
-      quote_within n t more q,
-      drop-append-le (n + 1) t more,
-      closed_stays (quote_of (drop n t)) 0 (drop (n + 1) t) more closed,
-      quoted_stays (n + 1) (inside n t) t more within,
-    )
+literal_with n t more q closed within = grind (arith, quote_within, drop-append-le, closed_stays, quoted_stays)
 
 not_slash : (b : ℕ) (t : List ℕ) → starts_literal (b ∷ t) ≡ true → (47 == b) ≡ false
 not_slash b t h = grind (arith, eqb-true 47 b)

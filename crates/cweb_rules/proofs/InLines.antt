@@ -1,5 +1,5 @@
 -- A lexeme of a line has no newline.
-use Rattle.cweb_rules.proofs.Common.{arith, ◌≡◌, ℕ, zero, suc, ◌+◌, ◌-◌, Bool, true, false, ◌&&◌, List, [], ◌∷◌, ◌++◌, Option, Some, None, length, take, drop, refl, sym, ◌∙◌, if◌then◌else◌, codes, prefix_len, ne_eqb, begins, is_blank, is_line_end, is_word_byte, at_line_end, starts_section, Effect, Named, in_limbo, in_tex, in_macro, in_c, letter, Transliteration, Look, Goes, Ends, Reach, reach, reach_in, with_unit, body, End, Cut, look_in_literal, look_in_include, look_in_raw, Kind, Section, Blanks, LineEnd, Comment, Quoted, Identifier, RuleMatch, rule_match, section_match, found_letter_match, name_match, effect_match, code_match, tex_match, comment_match, line_comment_match, literal_prefix, starts_literal, quoted_match, quote_of, raw_prefix, delimiter, raw_closer, starts_raw, starts_include, c_match, head_match_of, IsLine, match_in, Context, Limbo, TeX, Definition, Macro, CText, listed, longest, number_len, starts_number}
+use Rattle.cweb_rules.proofs.Common.{arith, ◌≡◌, ℕ, zero, suc, ◌+◌, ◌-◌, Bool, true, false, ◌&&◌, List, [], ◌∷◌, ◌++◌, Option, Some, None, length, take, drop, refl, sym, ◌∙◌, if◌then◌else◌, codes, prefix_len, ne_eqb, begins, is_blank, is_line_end, is_word_byte, at_line_end, starts_section, Effect, Named, in_limbo, in_tex, in_macro, in_c, letter, Transliteration, Look, Goes, Ends, Reach, reach, reach_in, with_unit, body, End, Cut, look_in_literal, look_in_include, look_in_raw, Kind, Blanks, LineEnd, Comment, Quoted, Identifier, RuleMatch, section_match, found_letter_match, name_match, effect_match, code_match, tex_match, comment_match, line_comment_match, literal_prefix, starts_literal, quoted_match, quote_of, raw_prefix, delimiter, raw_closer, starts_raw, starts_include, c_match, head_match_of, IsLine, match_in, Context, Limbo, TeX, Definition, Macro, CText, listed, longest, number_len, starts_number}
 use Rattle.cweb_rules.specs.declared.effect.Effect.TheVariants as effect
 
 abbrev pub AreLines : List (List ℕ) → Type 0
@@ -50,8 +50,7 @@ IsLine-drop (suc n) [] h = tt
 IsLine-drop (suc n) (b ∷ t) h = IsLine-drop n t h.1
 
 section-valid : (t : List ℕ) → IsLine t → Valid t (section_match t)
-section-valid t h =
-    grind (arith, choose t (begins (codes "@*") t) (rule_match (Section true) 2) (rule_match (Section false) 1))
+section-valid t h = grind (arith, choose)
 
 letter-valid : (o : Option Transliteration) (t : List ℕ) → IsLine t → Valid t (found_letter_match o t)
 letter-valid None t h = IsLine-take 2 t h
@@ -72,8 +71,7 @@ code_at-valid effect with_opener (a ∷ []) h = h
 code_at-valid effect with_opener (a ∷ b ∷ t) h = code-valid (effect b) with_opener (a ∷ b ∷ t) h
 
 pub text-valid : (effect : ℕ → Effect) (t : List ℕ) → IsLine t → Valid t (tex_match effect t)
-text-valid effect t h = choose t (starts_section t) _ _ (λ v. section-valid t h)
-    (λ v. choose t (begins (codes "@") t) _ _ (λ w. code_at-valid effect true t h) (λ w. IsLine-take 1 t h))
+text-valid effect t h = grind (arith, choose, section-valid, code_at-valid)
 
 lines-append : (us : List (List ℕ)) (u : List ℕ) → AreLines us → IsLine u → AreLines (us ++ u ∷ [])
 lines-append [] u h k = (k, tt)

@@ -1,5 +1,5 @@
 -- Lexemes of codes, comments and literals are within the source, and their bytes pay.
-use Rattle.cweb_rules.proofs.Common.{◌≡◌, ◌≤◌, ◌<◌, ℕ, zero, suc, ◌+◌, Bool, true, false, ◌||◌, List, [], ◌∷◌, ◌++◌, Option, Some, None, length, take, drop, refl, ap, arith, length-append, if◌then◌else◌, nat_lt, nat_le, codes, flat_map, flat_map-append, length-drop, length-take-le, prefix_len-le-length, ImproperHexNumber, begins, starts_section, is_line_end, is_delimiter, Effect, Nothing, Define, Format, Program, Named, InsertDefs, Joins, EmitAt, Faulty, letter, constant, Transliteration, Reach, body, reach_size, End, Cut, reach_of_control_text, reach_of_name, reach_of_literal, reach_of_included_name, look_in_control, look_in_name, look_in_literal, look_in_include, look_in_raw, reach_of_raw_literal, Kind, Skipped, Section, Code, Letter, Verbatim, Constant, Occurrence, Comment, Quoted, RuleMatch, rule_match, Context, section_match, control_text_match, verbatim_match, constant_match, found_letter_match, letter_match, opener_after, name_match, effect_match, code_match, tex_match, has_quote_at, literal_prefix, starts_literal, quoted_match, quote_of, literal_match, raw_prefix, has_delimiter, starts_raw, delimiter, raw_closer, raw_match, include_match, at_line_ends, Pays, FitsAndPays, second_so}
+use Rattle.cweb_rules.proofs.Common.{◌≡◌, ◌≤◌, ◌<◌, ℕ, zero, suc, ◌+◌, Bool, true, false, ◌||◌, List, [], ◌∷◌, ◌++◌, Option, Some, None, length, take, drop, refl, ap, arith, length-append, if◌then◌else◌, nat_lt, nat_le, codes, flat_map, flat_map-append, length-drop, length-take-le, prefix_len-le-length, ImproperHexNumber, begins, starts_section, is_line_end, is_delimiter, Effect, Nothing, Define, Format, Program, Named, InsertDefs, Joins, EmitAt, Faulty, letter, constant, Transliteration, Reach, body, reach_size, End, Cut, reach_of_control_text, reach_of_name, reach_of_literal, reach_of_included_name, look_in_control, look_in_name, look_in_literal, look_in_include, look_in_raw, reach_of_raw_literal, Kind, Skipped, Code, Letter, Verbatim, Constant, Occurrence, Comment, Quoted, RuleMatch, rule_match, Context, section_match, control_text_match, verbatim_match, constant_match, found_letter_match, letter_match, opener_after, name_match, effect_match, code_match, tex_match, has_quote_at, literal_prefix, starts_literal, quoted_match, quote_of, literal_match, raw_prefix, has_delimiter, starts_raw, delimiter, raw_closer, raw_match, include_match, at_line_ends, Pays, FitsAndPays, second_so}
 use Rattle.cweb_rules.specs.declared.effect.Effect.TheVariants as effect
 use Rattle.cweb_rules.proofs.Sizes.{take-at_most, begins-size, units-text, reach-size, control-within, name-within, literal-within, include-within, raw-within, opener_after-size}
 use Rattle.cweb_rules.proofs.TokenSizes.{IsShort, constant-size, IsLetter, letter-size}
@@ -15,10 +15,7 @@ choose c t true x y f g = f refl
 choose c t false x y f g = g refl
 
 pub section_at-fair : (c : Context) (b : ℕ) (t : List ℕ) → FitsAndPays c (b ∷ t) (section_match (b ∷ t))
-section_at-fair c b t =
-    choose c (b ∷ t) (begins (codes "@*") (b ∷ t)) (rule_match (Section true) 2) (rule_match (Section false)
-    1) (λ h. fair_of c (b ∷ t) (Section true) 2 (omega arith) (begins-size (codes "@*") (b ∷ t) h) (λ e.
-    omega (arith, e))) (λ h. fair_of c (b ∷ t) (Section false) 1 (omega arith) (omega arith) (λ e. omega (arith, e)))
+section_at-fair c b t = grind (arith, choose, fair_of, begins-size)
 
 pub skipped-fair : (c : Context) (b : ℕ) (t : List ℕ) → FitsAndPays c (b ∷ t) (rule_match Skipped 1)
 skipped-fair c b t = fair_of c (b ∷ t) Skipped 1 (omega arith) (omega arith) (λ e. tt)
@@ -116,17 +113,11 @@ ends-size (b ∷ t) = grind (arith, t, ends-size t)
 comment_pays : (n b : ℕ) (t : List ℕ) → 0 < n → is_line_end b ≡ false
     → at_line_ends 1 (take n (b ∷ t)) + 1 ≤ length (take n (b ∷ t))
 comment_pays zero b t some h = absurd (omega (arith, some))
-comment_pays (suc n) b t some h =
-    omega (
-      arith,
-      ends-size (take n t),
-      ap (λ v. if v then 1 + at_line_ends 1 (take n t) else at_line_ends 1 (take n t)) h,
-    )
+comment_pays (suc n) b t some h = grind (arith, ends-size)
 
 pub commented : (c : Context) (how : End) (b : ℕ) (t : List ℕ) (r : Reach) → is_line_end b ≡ false → 2 ≤ length (b ∷ t)
     → reach_size r ≤ length (drop 2 (b ∷ t)) → FitsAndPays c (b ∷ t) (rule_match (Comment how) (2 + reach_size r))
-commented c how b t r h two within = fair_of c (b ∷ t) (Comment how) (2 + reach_size r) (omega arith)
-    (omega (arith, two, within, length-drop 2 (b ∷ t))) (λ e. comment_pays (2 + reach_size r) b t (omega arith) h)
+commented c how b t r h two within = grind (arith, fair_of, length-drop, comment_pays)
 
 quoted-fair : (c : Context) (t : List ℕ) (n : ℕ) (r : Reach) → 0 < n
     → n ≤ length t → reach_size r ≤ length (drop n t) → FitsAndPays c t (quoted_match n r t)

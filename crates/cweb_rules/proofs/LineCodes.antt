@@ -1,5 +1,5 @@
 -- A control code in a line doesn't depend on the bytes after the line.
-use Rattle.cweb_rules.proofs.Common.{◌≡◌, ◌≤◌, ℕ, ◌+◌, Bool, false, List, [], ◌∷◌, ◌++◌, Option, Some, None, length, take, drop, refl, ap, ◌∙◌, arith, if◌then◌else◌, codes, nat_le, nat_lt, take-append-le, drop-append-le, length-drop, prefix_len-le-length, begins, is_gap, Effect, Named, letter, Transliteration, Reach, reach_size, End, Closed, Cut, reach_of_name, opener_len, look_in_name, Letter, Occurrence, RuleMatch, rule_match, found_letter_match, opener_after, name_match, effect_match, code_match, AtLineEnd, opens_name, opens_effect, opens_code}
+use Rattle.cweb_rules.proofs.Common.{◌≡◌, ◌≤◌, ℕ, ◌+◌, Bool, false, List, [], ◌∷◌, ◌++◌, Option, Some, None, length, drop, refl, ap, ◌∙◌, arith, if◌then◌else◌, codes, nat_lt, take-append-le, drop-append-le, length-drop, prefix_len-le-length, begins, is_gap, Effect, Named, Transliteration, Reach, reach_size, End, Closed, Cut, reach_of_name, opener_len, look_in_name, Letter, Occurrence, RuleMatch, rule_match, found_letter_match, opener_after, name_match, effect_match, code_match, AtLineEnd, opens_name, opens_effect, opens_code}
 use Rattle.cweb_rules.specs.declared.effect.Effect.TheVariants as effect
 use Rattle.cweb_rules.proofs.Seams.{run_line}
 use Rattle.cweb_rules.proofs.Looks.{all_some, name-local, name-units}
@@ -7,19 +7,11 @@ use Rattle.cweb_rules.proofs.OverLineEnds.{ends_in_line}
 use Rattle.cweb_rules.proofs.Sizes.{reach-size, name-within}
 use Rattle.cweb_rules.proofs.TokenSizes.{letter-size, IsLetter}
 use Rattle.cweb_rules.proofs.LineConstants.{control_text-line, constant-line, letter-line}
-use Rattle.cweb_rules.specs.declared.constants.TheConstants.{MAX_REPLACEMENT}
 
 letter_is-line : (o : Option Transliteration) (a b : ℕ) (t more : List ℕ)
     → IsLetter o (length t) → found_letter_match o (a ∷ b ∷ t ++ more) ≡ found_letter_match o (a ∷ b ∷ t)
 letter_is-line None a b t more h = refl
-letter_is-line (Some l) a b t more h =
-    let m = 2 + l.start in
-    let u = a ∷ b ∷ t in
-    let same : take l.size (drop m (u ++ more)) ≡ take l.size (drop m u) =
-    ap (take l.size) (drop-append-le m u more (omega (arith, h)))
-    ∙ take-append-le l.size (drop m u) more (omega (arith, h, length-drop m u)) in
-    λ i. rule_match (Letter l.byte (if nat_le l.size MAX_REPLACEMENT then Some (same i) else None))
-    (2 + (l.start + l.size))
+letter_is-line (Some l) a b t more h = grind (arith, drop-append-le, take-append-le, length-drop)
 
 sign-line : (t more : List ℕ) → AtLineEnd more → opener_len (t ++ more) ≡ opener_len t
 sign-line t more e = grind (arith, run_line is_gap t more refl e, drop-append-le, prefix_len-le-length is_gap t)
@@ -53,8 +45,7 @@ code_prefix-line : (c : Effect) (with_opener : Bool) (a b : ℕ) (t more : List 
     → AtLineEnd more → opens_effect c (a ∷ b ∷ t) ≡ false
     → effect_match c with_opener (a ∷ b ∷ t ++ more) ≡ effect_match c with_opener (a ∷ b ∷ t)
 code_prefix-line Named with_opener a b t more e h = name_at-line with_opener a b t more e h
-code_prefix-line effect.Letter with_opener a b t more e h =
-    grind (arith, letter-line t more e, letter_is-line (letter t) a b t more (letter-size t))
+code_prefix-line effect.Letter with_opener a b t more e h = grind (arith, letter-line, letter_is-line, letter-size)
 code_prefix-line effect.ControlText with_opener a b t more e h = cc (control_text-line t more e)
 code_prefix-line effect.Verbatim with_opener a b t more e h = cc (control_text-line t more e)
 code_prefix-line effect.Constant with_opener a b t more e h = cc (constant-line t more e)

@@ -1,5 +1,5 @@
 -- A comment that ends in its line doesn't depend on the bytes after it.
-use Rattle.cweb_rules.proofs.Common.{arith, ◌≡◌, ◌≤◌, ℕ, Bool, true, false, ◌&&◌, List, [], ◌∷◌, ◌++◌, length, refl, ap, ◌∙◌, codes, begins, Closed, reach_of_line_comment, comment_match, line_comment_match, AtLineEnd, opens_comment, look_in_comment, Reach, reach_size, reach_of_comment, rule_match, Comment, drop, ◌+◌, drop-append-le}
+use Rattle.cweb_rules.proofs.Common.{arith, ◌≡◌, ◌≤◌, ℕ, Bool, true, false, ◌&&◌, List, [], ◌∷◌, ◌++◌, length, refl, ap, ◌∙◌, codes, begins, Closed, reach_of_line_comment, comment_match, line_comment_match, AtLineEnd, opens_comment, look_in_comment, drop-append-le}
 use Rattle.cweb_rules.proofs.Reaches.{IsLocal, reach-line}
 use Rattle.cweb_rules.proofs.Looks.{all_some, whole, comment-local, comment-units}
 use Rattle.cweb_rules.proofs.OverLineEnds.{ends_in_line}
@@ -10,17 +10,11 @@ and_same a' true b' b e f = ap (λ v. v && b') e ∙ f refl
 and_same a' false b' b e f = ap (λ v. v && b') e
 
 pub comment_local : (more : List ℕ) → AtLineEnd more → IsLocal (look_in_comment (begins (codes "*/")) 2) more
-comment_local more e = comment-local (begins (codes "*/")) 2 more e
-    (λ b t. begins_line (codes "*/") (b ∷ t) more refl e)
+comment_local more e = grind (arith, comment-local, begins_line)
 
 pub comment_at_line : (t more : List ℕ) → AtLineEnd more → 2 ≤ length t
     → opens_comment t ≡ false → comment_match (t ++ more) ≡ comment_match t
-comment_at_line t more e two ends =
-    let look = look_in_comment (begins (codes "*/")) 2 in
-    ap (λ (r : Reach). rule_match (Comment r.how) (2 + reach_size r))
-    (ap reach_of_comment (drop-append-le 2 t more two)
-    ∙ ends_in_line look (drop 2 t) more (all_some look (comment-units (begins (codes "*/")) 2)) comment_local e
-    (λ h. cc) ends)
+comment_at_line t more e two ends = grind (arith, drop-append-le, ends_in_line, all_some, comment-units, comment_local)
 
 line_comment-stops : (more : List ℕ) → AtLineEnd more
     → reach_of_line_comment more ≡ record { units = []; close = 0; how = Closed }

@@ -1,5 +1,5 @@
 -- Constants, transliterations and control texts don't depend on the bytes after their line.
-use Rattle.cweb_rules.proofs.Common.{◌≡◌, ◌≤◌, ℕ, ◌+◌, true, false, List, [], ◌∷◌, ◌++◌, Option, Some, None, length, take, drop, refl, ap, ◌∙◌, subst, arith, if◌then◌else◌, codes, prefix_len, take-append-le, drop-append-le, length-take-le, prefix_len-le-length, begins, is_gap, is_octal, is_hex, is_replacing, character, escapes, escaped, octal, after_backslash, is_plain_character, character_at, faulty_size, constant_of, constant, hex_at, letter_with, letter_after, letter, Transliteration, Character, Cut, reach_of_control_text, look_in_control, AtLineEnd, and-false}
+use Rattle.cweb_rules.proofs.Common.{◌≡◌, ◌≤◌, ℕ, ◌+◌, true, false, List, [], ◌∷◌, ◌++◌, Option, Some, None, length, take, refl, ap, subst, arith, if◌then◌else◌, codes, prefix_len, take-append-le, drop-append-le, length-take-le, prefix_len-le-length, begins, is_gap, is_octal, is_hex, character, escapes, escaped, octal, after_backslash, is_plain_character, character_at, faulty_size, constant_of, constant, hex_at, letter_with, letter_after, letter, Transliteration, Character, Cut, reach_of_control_text, AtLineEnd, and-false}
 use Rattle.cweb_rules.proofs.Seams.{begins_line, drop_line, run_line}
 use Rattle.cweb_rules.proofs.Reaches.{reach-line}
 use Rattle.cweb_rules.proofs.Looks.{whole, control-local, control-units}
@@ -11,8 +11,7 @@ control-stops [] e = refl
 control-stops (b ∷ more) e = ap (λ n. reach_of_control_text (n ∷ more)) e
 
 pub control_text-line : (t more : List ℕ) → AtLineEnd more → reach_of_control_text (t ++ more) ≡ reach_of_control_text t
-control_text-line t more e = reach-line look_in_control Cut t more
-    (control-local more e) (control-local [] tt) (whole look_in_control control-units t) (control-stops more e)
+control_text-line t more e = grind (arith, reach-line, control-local, whole, control-units, control-stops)
 
 after_backslash-line : (t more : List ℕ) → AtLineEnd more → after_backslash (t ++ more) ≡ after_backslash t
 after_backslash-line t more e =
@@ -21,10 +20,7 @@ after_backslash-line t more e =
 character_at-line : (t more : List ℕ) → AtLineEnd more → character_at (t ++ more) ≡ character_at t
 character_at-line [] [] e = refl
 character_at-line [] (b ∷ more) e = ap (λ n. character_at (n ∷ more)) e
-character_at-line (b ∷ t) more e =
-    λ i. if begins_line (codes "@@") (b ∷ t) more refl e i then character 64 2 else (if begins_line (codes "\\")
-    (b ∷ t) more refl e i then after_backslash-line t more e i else
-    (if is_plain_character b then character b 1 else None))
+character_at-line (b ∷ t) more e = grind (arith, begins_line, after_backslash-line)
 
 abbrev IsFit : Option Character → ℕ → Type 0
 IsFit None n = Unit {0}
@@ -32,11 +28,7 @@ IsFit (Some c) n = c.size ≤ n
 
 escaped-fits : (es : List (ℕ × ℕ)) (t : List ℕ) → IsFit (escaped es t) (1 + length t)
 escaped-fits [] t = tt
-escaped-fits (e ∷ es) t = (elim (begins (e.0 ∷ []) t)
-    as (λ v. begins (e.0 ∷ []) t ≡ v → IsFit (if v then character e.1 2 else escaped es t) (1 + length t)) [
-      | true ↦ λ h. omega (arith, begins-size (e.0 ∷ []) t h)
-      | false ↦ λ h. escaped-fits es t
-    ]) refl
+escaped-fits (e ∷ es) t = grind (arith, begins-size, escaped-fits es t)
 
 octal-fits : (n : ℕ) (t : List ℕ) → n ≤ length t → IsFit (octal (take n t)) (1 + length t)
 octal-fits n t h = grind (arith, length-take-le n t h)
@@ -72,22 +64,18 @@ constant_of-line (Some c) t more e h = λ i. if drop_line (codes "'") c.size t m
     i then record { value = Some c.code; size = c.size + 1 } else record { value = None; size = faulty-line t more e i }
 
 pub constant-line : (t more : List ℕ) → AtLineEnd more → constant (t ++ more) ≡ constant t
-constant-line t more e = ap (λ o. constant_of o (t ++ more)) (character_at-line t more e)
-    ∙ constant_of-line (character_at t) t more e (character_at-fits t)
+constant-line t more e = grind (arith, character_at-line, constant_of-line, character_at-fits)
 
 letter_with-line : (byte start gap : ℕ) (t more : List ℕ) → AtLineEnd more → gap ≤ length t
     → letter_with byte start gap (t ++ more) ≡ letter_with byte start gap t
-letter_with-line byte start gap t more e h =
-    cc (drop-append-le gap t more h, run_line is_replacing (drop gap t) more refl e)
+letter_with-line byte start gap t more e h = grind (arith, drop-append-le, run_line)
 
 letter_of-line : (o : Option ℕ) (start : ℕ) (t more : List ℕ)
     → AtLineEnd more → (elim o as (λ w. Option Transliteration)
     [ None ↦ None | Some byte ↦ letter_with byte start (prefix_len is_gap (t ++ more)) (t ++ more) ]) ≡ (elim
     o as (λ w. Option Transliteration) [ None ↦ None | Some byte ↦ letter_with byte start (prefix_len is_gap t) t ])
 letter_of-line None start t more e = refl
-letter_of-line (Some byte) start t more e =
-    ap (λ g. letter_with byte start g (t ++ more)) (run_line is_gap t more refl e)
-    ∙ letter_with-line byte start (prefix_len is_gap t) t more e (prefix_len-le-length is_gap t)
+letter_of-line (Some byte) start t more e = grind (arith, run_line, letter_with-line, prefix_len-le-length)
 
 hex_none : (a : ℕ) (t more : List ℕ) → hex_at (a ∷ 10 ∷ more) ≡ None
 hex_none a t more = cc (and-false (is_hex a))
@@ -100,8 +88,7 @@ letter_after-line gap [] [] e = refl
 letter_after-line gap [] (b ∷ []) e = refl
 letter_after-line gap [] (b ∷ c ∷ more) e = ap (λ n. letter_after gap (n ∷ c ∷ more)) e
 letter_after-line gap (a ∷ []) [] e = refl
-letter_after-line gap (a ∷ []) (b ∷ more) e =
-    ap (λ n. letter_after gap (a ∷ n ∷ more)) e ∙ letter_after-none gap (a ∷ 10 ∷ more) (hex_none a [] more)
+letter_after-line gap (a ∷ []) (b ∷ more) e = grind (arith, letter_after-none, hex_none)
 letter_after-line gap (a ∷ b ∷ t) more e = letter_of-line (hex_at (a ∷ b ∷ t)) (gap + 2) t more e
 
 pub letter-line : (t more : List ℕ) → AtLineEnd more → letter (t ++ more) ≡ letter t

@@ -24,8 +24,7 @@ pub starts_raw_line : (t more : List ℕ) → AtLineEnd more → starts_raw (t +
 starts_raw_line t more e = grind (arith, and_same, raw_prefix-fits t, drop-append-le, sign-fits t, has_delimiter-line)
 
 pub delimiter-line : (t more : List ℕ) → AtLineEnd more → delimiter (t ++ more) ≡ delimiter t
-delimiter-line t more e = ap (λ n. take n (t ++ more)) (run_line is_delimiter t more refl e)
-    ∙ take-append-le (prefix_len is_delimiter t) t more (prefix_len-le-length is_delimiter t)
+delimiter-line t more e = grind (arith, run_line, take-append-le, prefix_len-le-length)
 
 delimits : (b : ℕ) → is_delimiter b ≡ true → in_line b ≡ true
 delimits b h = grind (arith, or-true (is_blank b))
@@ -78,8 +77,7 @@ include-stops [] e = refl
 include-stops (b ∷ more) e = ap (λ n. reach_of_included_name (n ∷ more)) e
 
 included-line : (t more : List ℕ) → AtLineEnd more → reach_of_included_name (t ++ more) ≡ reach_of_included_name t
-included-line t more e = reach-line look_in_include Cut t more
-    (include-local more e) (include-local [] tt) (whole look_in_include include-units t) (include-stops more e)
+included-line t more e = grind (arith, reach-line, include-local, whole, include-units, include-stops)
 
 pub starts_include_line : (b : ℕ) (t more : List ℕ) → AtLineEnd more
     → starts_include (b ∷ t ++ more) ≡ starts_include (b ∷ t)

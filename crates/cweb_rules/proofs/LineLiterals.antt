@@ -1,7 +1,7 @@
 -- A literal that ends in its line doesn't depend on the bytes after it.
-use Rattle.cweb_rules.proofs.Common.{◌≡◌, ◌≤◌, ℕ, ◌+◌, Bool, true, false, ◌||◌, ◌==◌, List, [], ◌∷◌, ◌++◌, length, take, drop, refl, ap, ◌∙◌, arith, if◌then◌else◌, codes, take-append-le, drop-append-le, length-drop, begins, Look, Reach, reach, body, reach_size, Cut, Open, reach_of_literal, look_in_literal, Quoted, RuleMatch, rule_match, has_quote_at, literal_prefix, starts_literal, quoted_match, quote_of, literal_match, AtLineEnd, is_unclosed, opens_literal, and_parts, ◌&&◌, Ends, Closed}
+use Rattle.cweb_rules.proofs.Common.{◌≡◌, ◌≤◌, ℕ, ◌+◌, Bool, true, false, ◌||◌, ◌==◌, List, [], ◌∷◌, ◌++◌, length, drop, refl, ap, ◌∙◌, arith, if◌then◌else◌, codes, take-append-le, drop-append-le, length-drop, begins, Look, Reach, reach, reach_size, Cut, Open, reach_of_literal, look_in_literal, RuleMatch, has_quote_at, literal_prefix, starts_literal, quoted_match, quote_of, literal_match, AtLineEnd, is_unclosed, opens_literal, and_parts}
 use Rattle.cweb_rules.proofs.Seams.{begins_line, drop_line, stops}
-use Rattle.cweb_rules.proofs.Reaches.{IsLocal, at_start}
+use Rattle.cweb_rules.proofs.Reaches.{IsLocal}
 use Rattle.cweb_rules.proofs.Looks.{AllSome, literal-local, literal-some}
 use Rattle.cweb_rules.specs.inner.LineItems.{goes_on}
 use Rattle.cweb_rules.proofs.OverLineEnds.{ends_in_line, newline}
@@ -10,14 +10,7 @@ use Rattle.cweb_rules.proofs.LineComments.{and_same}
 
 pub quoted-line : (n : ℕ) (r : Reach) (t more : List ℕ) → n ≤ length t
     → reach_size r ≤ length (drop n t) → quoted_match n r (t ++ more) ≡ quoted_match n r t
-quoted-line n r t more fits within =
-    let m = n + length (body r) in
-    let d = length-drop n t in
-    let first : take n (t ++ more) ≡ take n t = take-append-le n t more fits in
-    let last : take r.close (drop m (t ++ more)) ≡ take r.close (drop m t) =
-    ap (take r.close) (drop-append-le m t more (omega (arith, fits, within, d)))
-    ∙ take-append-le r.close (drop m t) more (omega (arith, fits, within, d, length-drop m t)) in
-    λ i. rule_match (Quoted (first i ∷ r.units ++ last i ∷ []) r.how) (n + reach_size r)
+quoted-line n r t more fits within = grind (arith, length-drop, take-append-le, drop-append-le)
 
 -- A literal that ends in its line, or with it.
 pub quoted_ends : (look : List ℕ → Look) (n : ℕ) (t more : List ℕ) → n ≤ length t → IsWithin look → AllSome look
@@ -26,9 +19,7 @@ pub quoted_ends : (look : List ℕ → Look) (n : ℕ) (t more : List ℕ) → n
     → goes_on look (drop n t) ≡ false
     → quoted_match n (reach look Cut (drop n (t ++ more))) (t ++ more) ≡ quoted_match n (reach look Cut (drop n t)) t
 quoted_ends look n t more fits within some local e stops ends =
-    ap (λ u. quoted_match n (reach look Cut u) (t ++ more)) (drop-append-le n t more fits)
-    ∙ ap (λ r. quoted_match n r (t ++ more)) (ends_in_line look (drop n t) more some local e stops ends)
-    ∙ quoted-line n (reach look Cut (drop n t)) t more fits (reach-size look Cut within (drop n t))
+    grind (arith, drop-append-le, ends_in_line, stops, quoted-line, reach-size)
 
 is_quoted-line : (n : ℕ) (t more : List ℕ) → AtLineEnd more → n ≤ length t
     → has_quote_at n (t ++ more) ≡ has_quote_at n t
@@ -40,33 +31,16 @@ or_size true b n h f g = f refl
 or_size false b n h f g = g h
 
 one_letter : (t : List ℕ) → (begins (codes "L") t || begins (codes "u") t || begins (codes "U") t) ≡ true → 1 ≤ length t
-one_letter t h = or_size (begins (codes "L") t || begins (codes "u") t)
-    (begins (codes "U") t) (length t) h (λ k. or_size (begins (codes "L") t) (begins (codes "u") t)
-    (length t) k (begins-size (codes "L") t) (begins-size (codes "u") t)) (begins-size (codes "U") t)
+one_letter t h = grind (arith, or_size, begins-size)
 
 pub literal_prefix-line : (t more : List ℕ) → AtLineEnd more → literal_prefix (t ++ more) ≡ literal_prefix t
-literal_prefix-line t more e =
-    grind (
-      arith,
-      and_same (begins (codes "u8") (t ++ more)) (begins (codes "u8") t) (has_quote_at 2 (t ++ more))
-          (has_quote_at 2 t) (begins_line (codes "u8") t more refl e),
-      begins_line (codes "u8") t more refl e,
-      begins-size
-          (codes "u8") t,
-      and_same (begins (codes "L") (t ++ more) || begins (codes "u") (t ++ more) || begins (codes "U") (t
-          ++ more)) (begins (codes "L") t || begins (codes "u") t || begins (codes "U") t) (has_quote_at 1 (t ++ more))
-          (has_quote_at 1 t),
-      begins_line (codes "u") t more refl e,
-      begins_line (codes "U") t more refl e,
-      one_letter t,
-    )
+literal_prefix-line t more e = grind (arith, and_same, begins_line, begins-size, one_letter)
 
 literal_prefix-fits : (t : List ℕ) → literal_prefix t ≤ length t
 literal_prefix-fits t = grind (arith, and_parts (begins (codes "u8") t) (has_quote_at 2 t))
 
 pub starts_literal_line : (t more : List ℕ) → AtLineEnd more → starts_literal (t ++ more) ≡ starts_literal t
-starts_literal_line t more e = ap (λ n. has_quote_at n (t ++ more)) (literal_prefix-line t more e)
-    ∙ is_quoted-line (literal_prefix t) t more e (literal_prefix-fits t)
+starts_literal_line t more e = grind (arith, literal_prefix-line, is_quoted-line, literal_prefix-fits)
 
 pub is_quoted-size : (n : ℕ) (t : List ℕ) → has_quote_at n t ≡ true → n + 1 ≤ length t
 is_quoted-size n t h =
@@ -77,9 +51,7 @@ is_quoted-size n t h =
 literal-stops : (quote : ℕ) (more : List ℕ) → (quote == 10) ≡ false → AtLineEnd more
     → reach_of_literal quote more ≡ record { units = []; close = 0; how = Cut }
 literal-stops quote [] h e = refl
-literal-stops quote (b ∷ more) h e = ap (λ n. reach_of_literal quote (n ∷ more)) e
-    ∙ ap (λ v. at_start (look_in_literal quote) (if v && true then Ends 1 Closed else Ends 0 Cut)
-    (10 ∷ more) Cut more) h
+literal-stops quote (b ∷ more) h e = grind arith
 
 abbrev pub literal_with : ℕ → ℕ → List ℕ → RuleMatch
 literal_with n quote t = quoted_match (n + 1) (reach_of_literal quote (drop (n + 1) t)) t

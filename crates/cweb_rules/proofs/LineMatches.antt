@@ -19,11 +19,8 @@ section_at_line t more e = grind arith
 
 pub text_prefix_line : (effect : ℕ → Effect) (b : ℕ) (t more : List ℕ) → AtLineEnd more
     → tex_opens effect (b ∷ t) ≡ false → tex_match effect (b ∷ t ++ more) ≡ tex_match effect (b ∷ t)
-text_prefix_line effect b t more e h = step (starts_section (b ∷ t ++ more)) (starts_section (b ∷ t)) _ _ _ _ false
-    (if begins (codes "@") (b ∷ t) then opens_code effect (b ∷ t) else false) (starts_section_line b t more e)
-    (λ v p. section_at_line (b ∷ t) more e) (λ v q. step (begins (codes "@") (b ∷ t ++ more))
-    (begins (codes "@") (b ∷ t)) _ _ _ _ (opens_code effect (b ∷ t)) false (begins_line (codes "@") (b ∷ t) more refl e)
-    (λ w p. code_at_line effect true b t more e (at_fits b t v w) p) (λ w r. refl) q) h
+text_prefix_line effect b t more e h =
+    grind (arith, step, starts_section_line, section_at_line, begins_line, code_at_line, at_fits)
 
 rest_line : (includes : Bool) (b : ℕ) (t more : List ℕ)
     → AtLineEnd more → (if includes && starts_include (b ∷ t ++ more) then include_match (b ∷ t ++ more) else

@@ -1,5 +1,5 @@
 -- The longest listed punctuator has three bytes, or two, or there is none.
-use Rattle.cweb_rules.proofs.Common.{◌≡◌, ℕ, ◌≤◌, Bool, true, false, List, [], ◌∷◌, refl, sym, ◌∙◌, ap, arith, nat_tests, bytes_eq, list_any, if◌then◌else◌, listed, longest, begins_triple, begins_pair}
+use Rattle.cweb_rules.proofs.Common.{◌≡◌, ℕ, ◌≤◌, Bool, true, false, List, [], ◌∷◌, refl, ◌∙◌, ap, arith, nat_tests, bytes_eq, list_any, if◌then◌else◌, listed, longest, begins_triple, begins_pair}
 
 pub longest_pos : (ps : List (List ℕ)) (t : List ℕ) → 1 ≤ longest ps t
 longest_pos [] t = omega arith
@@ -53,5 +53,4 @@ triple-len t h = listed-is t ∙ ap (λ b. if b then 3 else (if begins_pair t th
 
 pub other-len : (t : List ℕ) (pair : Bool) → begins_triple t ≡ false → pair ≡ begins_pair t
     → longest listed t ≡ (if pair then 2 else 1)
-other-len t pair h g = listed-is t ∙ ap (λ b. if b then 3 else (if begins_pair t then 2 else 1)) h
-    ∙ ap (λ b. if b then 2 else 1) (sym g)
+other-len t pair h g = grind (arith, listed-is)

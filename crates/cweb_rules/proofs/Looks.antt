@@ -1,8 +1,8 @@
 -- The next unit of an item in a line: it doesn't depend on the bytes after the line, and is within the line.
-use Rattle.cweb_rules.proofs.Common.{◌≡◌, ◌≤◌, ◌<◌, ℕ, zero, suc, ◌-◌, Bool, true, false, ◌||◌, ◌==◌, List, [], ◌∷◌, ◌++◌, length, refl, ap, sym, ◌∙◌, subst, arith, if◌then◌else◌, codes, list_all, eqb-true, append-nil, begins, first_is, is_line_end, starts_section, Look, Goes, Ends, reach, reach_in, End, Closed, Cut, Open, look_in_control, look_in_name, look_in_comment, look_in_literal, look_in_include, look_in_raw, AtLineEnd, is_unclosed, and_parts}
+use Rattle.cweb_rules.proofs.Common.{◌≡◌, ◌≤◌, ◌<◌, ℕ, zero, suc, ◌-◌, Bool, true, false, ◌==◌, List, [], ◌∷◌, ◌++◌, length, refl, arith, if◌then◌else◌, codes, list_all, begins, first_is, starts_section, Look, Goes, Ends, reach, reach_in, Closed, Cut, Open, look_in_control, look_in_name, look_in_comment, look_in_literal, look_in_include, look_in_raw, AtLineEnd, is_unclosed, and_parts}
 use Rattle.cweb_rules.proofs.Seams.{in_line, begins_stop, begins_line, starts_section_line}
 use Rattle.cweb_rules.proofs.Sizes.{begins-size}
-use Rattle.cweb_rules.proofs.Reaches.{IsLocal, IsEnd, IsWhole, ended, at_start, WholeAt, reach-ended}
+use Rattle.cweb_rules.proofs.Reaches.{IsLocal, IsEnd, IsWhole, at_start, WholeAt}
 
 abbrev pub IsWithin : Look → ℕ → Type 0
 IsWithin (Goes n) len = (0 < n) × (n ≤ len)
@@ -36,18 +36,12 @@ pub control-local : (more : List ℕ) → AtLineEnd more → IsLocal look_in_con
 control-local more e b t = grind arith
 
 pub control-units : AllWithin look_in_control
-control-units b t =
-    let n = length (b ∷ t) in
-    within_if (begins (codes "@>") (b ∷ t)) _ _ n (λ h. tt) (λ h. within_if (begins (codes "@@") (b ∷ t)) _ _ n
-    (λ k. goes 2 n (omega arith) (begins-size (codes "@@") (b ∷ t) k)) (λ k. within_if
-    (begins (codes "@") (b ∷ t) || is_line_end b) _ _ n (λ l. tt) (λ l. goes 1 n (omega arith) (omega arith))))
+control-units b t = grind (arith, within_if, goes, begins-size)
 
 -- An `@` that begins no section has a byte after it.
 pub at_fits : (b : ℕ) (t : List ℕ) → starts_section (b ∷ t) ≡ false
     → begins (codes "@") (b ∷ t) ≡ true → 2 ≤ length (b ∷ t)
-at_fits b [] s h =
-    let wrong : true ≡ false = subst (λ n. (n == 64) ≡ false) (sym (eqb-true 64 b (and_parts (64 == b) true h).0)) s in
-    cc
+at_fits b [] s h = grind (arith, and_parts)
 at_fits b (c ∷ t) s h = omega arith
 
 pub name-local : (more : List ℕ) → AtLineEnd more → IsLocal look_in_name more
@@ -58,21 +52,14 @@ at-units : (b : ℕ) (t : List ℕ) → starts_section (b ∷ t) ≡ false
 at-units b t h = grind (arith, within_if (begins (codes "@") (b ∷ t)) (Goes 2) (Goes 1), at_fits b t h)
 
 pub name-units : AllWithin look_in_name
-name-units b t =
-    let n = length (b ∷ t) in
-    within_if (begins (codes "@>") (b ∷ t)) _ _ n (λ h. tt) (λ h.
-    within_if (begins (codes "@<") (b ∷ t) || begins (codes "@(") (b ∷ t)) _ _ n (λ k. tt)
-    (λ k. within_if (starts_section (b ∷ t)) _ _ n (λ l. tt) (λ l. at-units b t l)))
+name-units b t = grind (arith, within_if, at-units)
 
 pub comment-local : (closes : List ℕ → Bool) (size : ℕ) (more : List ℕ) → AtLineEnd more
     → ((b : ℕ) (t : List ℕ) → closes (b ∷ t ++ more) ≡ closes (b ∷ t)) → IsLocal (look_in_comment closes size) more
 comment-local closes size more e same b t = grind arith
 
 pub comment-units : (closes : List ℕ → Bool) (size : ℕ) → AllWithin (look_in_comment closes size)
-comment-units closes size b t =
-    let n = length (b ∷ t) in
-    within_if (closes (b ∷ t)) _ _ n (λ h. tt)
-    (λ k. within_if (starts_section (b ∷ t)) _ _ n (λ l. tt) (λ l. at-units b t l))
+comment-units closes size b t = grind (arith, within_if, at-units)
 
 doubled-units : (b : ℕ) (t : List ℕ)
     → IsWithin (if begins (codes "@@") (b ∷ t) then Goes 2 else Goes 1) (length (b ∷ t))
@@ -82,10 +69,7 @@ pub include-local : (more : List ℕ) → AtLineEnd more → IsLocal look_in_inc
 include-local more e b t = grind arith
 
 pub include-units : AllWithin look_in_include
-include-units b t =
-    let n = length (b ∷ t) in
-    within_if (begins (codes ">") (b ∷ t)) _ _ n (λ h. tt)
-    (λ h. within_if (is_line_end b) _ _ n (λ k. tt) (λ k. doubled-units b t))
+include-units b t = grind (arith, within_if, doubled-units)
 
 -- The closer of a raw literal has no newline.
 pub raw-local : (sign more : List ℕ) → list_all in_line sign ≡ true → AtLineEnd more → IsLocal (look_in_raw sign) more
@@ -94,10 +78,7 @@ raw-local sign more a e b t =
     b t more e i then Ends 0 Cut else (if begins_line (codes "@@") (b ∷ t) more refl e i then Goes 2 else Goes 1))
 
 pub raw-units : (sign : List ℕ) → AllWithin (look_in_raw sign)
-raw-units sign b t =
-    let n = length (b ∷ t) in
-    within_if (begins sign (b ∷ t)) _ _ n (λ h. tt)
-    (λ h. within_if (starts_section (b ∷ t)) _ _ n (λ k. tt) (λ k. doubled-units b t))
+raw-units sign b t = grind (arith, within_if, doubled-units)
 
 -- In a literal this holds at each seam without an `@` after it.
 pub literal-local : (quote : ℕ) (more : List ℕ)
@@ -133,13 +114,7 @@ some_if true x y f g = f
 some_if false x y f g = g
 
 pub literal-some : (quote : ℕ) → AllSome (look_in_literal quote)
-literal-some quote b t = some_if (begins (quote ∷ []) (b ∷ t)) _ _ tt
-    (some_if (is_line_end b) _ _ tt (some_if (begins (codes "\\@") (b ∷ t)) _ _ (omega arith)
-    (some_if (begins (codes "\\") (b ∷ t) || begins (codes "@@") (b ∷ t)) _ _ (omega arith) (omega arith))))
+literal-some quote b t = grind (arith, some_if)
 
 pub all_some : (look : List ℕ → Look) → AllWithin look → AllSome look
-all_some look h b t = some_of (look (b ∷ t)) (length (b ∷ t)) (h b t)
-  where
-    some_of : (v : Look) (m : ℕ) → IsWithin v m → IsSome v
-    some_of (Goes n) m h = h.0
-    some_of (Ends n how) m h = h
+all_some look h b t = grind arith

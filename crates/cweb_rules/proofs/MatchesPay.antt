@@ -1,5 +1,5 @@
 -- Each lexeme is within the source, and its bytes pay for what it emits.
-use Rattle.cweb_rules.proofs.Common.{◌≡◌, ◌≤◌, ℕ, Bool, true, false, ◌&&◌, List, [], ◌∷◌, length, take, drop, refl, arith, codes, prefix_len, prefix_len-le-length, Place, begins, starts_section, at_line_end, is_line_end, is_blank, is_digit, is_word_byte, Effect, in_limbo, in_tex, in_macro, in_c, Closed, Cut, reach_of_comment, reach_of_line_comment, look_in_comment, Kind, Blanks, LineEnd, Comment, Identifier, Numeral, Punctuator, rule_match, listed, longest, number_len, continues_number, starts_number, Context, Limbo, TeX, Definition, Macro, CText, starts_literal, starts_raw, starts_include, c_match, macro_match, head_match_of, match_in, Pays, FitsAndPays}
+use Rattle.cweb_rules.proofs.Common.{◌≡◌, ◌≤◌, ℕ, Bool, true, false, ◌&&◌, List, [], ◌∷◌, length, take, drop, arith, codes, prefix_len, prefix_len-le-length, Place, begins, starts_section, at_line_end, is_line_end, is_blank, is_digit, is_word_byte, Effect, in_limbo, in_tex, in_macro, in_c, Closed, Cut, reach_of_comment, reach_of_line_comment, look_in_comment, Kind, Blanks, LineEnd, Comment, Identifier, Numeral, Punctuator, rule_match, listed, longest, number_len, continues_number, starts_number, Context, Limbo, TeX, Definition, Macro, CText, starts_literal, starts_raw, starts_include, c_match, macro_match, head_match_of, match_in, Pays, FitsAndPays}
 use Rattle.cweb_rules.proofs.Sizes.{begins-size, reach-size, comment-within}
 use Rattle.cweb_rules.proofs.TokenSizes.{number-size, longest-size}
 use Rattle.cweb_rules.proofs.ItemMatchesPay.{fair_of, choose, section_at-fair, skipped-fair, t, code_at-fair, text_prefix-fair, commented, literal_at-fair, raw_at-fair, include_at-fair}
@@ -53,8 +53,7 @@ head_as-fair : (begun : Place) (k : Kind) (n : ℕ) (b : ℕ) (t : List ℕ)
 head_as-fair begun Blanks n b t f = f
 head_as-fair begun LineEnd n b t f = f
 head_as-fair begun (Comment how) n b t f = f
-head_as-fair begun Identifier n b t f =
-    fair_of (Definition begun) (b ∷ t) _ n f.some f.within (λ e. (omega (arith, e, f.some), refl))
+head_as-fair begun Identifier n b t f = grind (arith, fair_of, t)
 head_as-fair begun _ n b t f = text_prefix-fair (Definition begun) in_tex b t
 
 pub prefix_in-fair : (c : Context) (includes : Bool) (b : ℕ) (t : List ℕ)

@@ -26,8 +26,7 @@ code-opened _ with_opener t u h = no h
 code_at-opened : (effect : ℕ → Effect) (with_opener : Bool) (b : ℕ) (u more : List ℕ)
     → opens_code effect (b ∷ u) ≡ true → Known (b ∷ u ++ more) (code_match effect with_opener (b ∷ u ++ more))
 code_at-opened effect with_opener b [] more h = no h
-code_at-opened effect with_opener b (d ∷ u) more h = code-opened (effect d) with_opener (b ∷ d ∷ u ++ more)
-    (b ∷ d ∷ u) h
+code_at-opened effect with_opener b (d ∷ u) more h = grind (arith, code-opened)
 
 text-opened : (effect : ℕ → Effect) (b : ℕ) (u more : List ℕ) → AtLineEnd more
     → tex_opens effect (b ∷ u) ≡ true → Known (b ∷ u ++ more) (tex_match effect (b ∷ u ++ more))

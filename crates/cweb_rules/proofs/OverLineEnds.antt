@@ -1,5 +1,5 @@
 -- Items that go on after a newline, or end before it.
-use Rattle.cweb_rules.proofs.Common.{◌≡◌, ℕ, zero, suc, ◌-◌, ◌&&◌, ◌==◌, true, false, List, [], ◌∷◌, ◌++◌, refl, ap, sym, ◌∙◌, if◌then◌else◌, Look, Goes, Ends, Reach, reach, reach_in, End, Cut, Open, AtLineEnd, is_unclosed, append-nil}
+use Rattle.cweb_rules.proofs.Common.{◌≡◌, ℕ, zero, suc, ◌-◌, true, false, List, [], ◌∷◌, ◌++◌, refl, ap, sym, ◌∙◌, Look, Goes, Ends, Reach, reach, reach_in, End, Cut, Open, AtLineEnd, is_unclosed, append-nil, arith}
 use Rattle.cweb_rules.specs.inner.LineItems.{goes_on}
 use Rattle.cweb_rules.proofs.Looks.{IsSome, AllSome, AllWithin, ended_whole, whole}
 use Rattle.cweb_rules.proofs.Reaches.{IsLocal, IsWhole, WholeAt, at_start, join, reach-append, reach-ended}
@@ -50,14 +50,9 @@ join_open us k _ next h = refl
 -- If a newline is a unit, an item goes on after its line unless it ends in it.
 pub goes_on_is : (look : List ℕ → Look) (t : List ℕ) → AllWithin look → IsLocal look newline → look newline ≡ Goes 1
     → goes_on look t ≡ is_unclosed (reach look Open t).how
-goes_on_is look t within local goes =
-    let r = reach look Open t in
-    ap (λ (m : Reach). is_unclosed m.how) (reach-append look Open t newline local (whole look within t))
-    ∙ join_open r.units r.close r.how (reach look Open newline)
-    (ap (λ v. is_unclosed (at_start look v newline Open []).how) goes)
+goes_on_is look t within local goes = grind (arith, reach-append, whole, join_open)
 
 -- An item that ends in its line doesn't go on.
 pub ended_stops : (look : List ℕ → Look) (t : List ℕ) → IsLocal look newline → AllSome look
     → is_unclosed (reach look Open t).how ≡ false → goes_on look t ≡ false
-ended_stops look t local some h =
-    ap (λ (r : Reach). is_unclosed r.how) (reach-ended look Open t newline local (ended_whole look some t h) h) ∙ h
+ended_stops look t local some h = grind (arith, reach-ended, ended_whole)

@@ -1,5 +1,5 @@
 -- Spans of plain bytes.
-use Rattle.cweb_rules.proofs.Common.{◌≡◌, ◌<◌, ℕ, ◌+◌, suc, ◌++◌, ◌∙◌, Open, is_unclosed, Bool, true, false, cond, not, ◌||◌, ◌==◌, List, [], ◌∷◌, Option, Some, None, length, drop, get_or, refl, ap, sym, arith, prefix_len, unwrap_or, ne_eqb, eqb-false, prefix_len_is, IsFirstByte, at_line_end, reach, look_in_control, look_in_name, look_in_comment, look_in_literal, look_in_include, look_in_raw, look_of, reached, is_raw_special, is_special, is_plain, End, Item, Name, LineComment, Literal, IncludedName, RawLiteral, Look, Goes, not-true, or_parts}
+use Rattle.cweb_rules.proofs.Common.{◌≡◌, ◌<◌, ℕ, ◌+◌, suc, ◌++◌, ◌∙◌, Open, is_unclosed, Bool, true, false, cond, not, ◌==◌, List, [], ◌∷◌, Option, Some, None, length, drop, get_or, refl, ap, sym, arith, prefix_len, unwrap_or, ne_eqb, eqb-false, prefix_len_is, IsFirstByte, at_line_end, reach, look_in_control, look_in_name, look_in_comment, look_in_literal, look_in_include, look_in_raw, look_of, reached, is_raw_special, is_special, is_plain, End, Item, Name, LineComment, Literal, IncludedName, RawLiteral, Look, Goes, not-true, or_parts}
 use Rattle.cweb_rules.specs.declared.items.Item.TheVariants.{ControlText, Comment}
 use Rattle.cweb_rules.proofs.Ranges.{later_by, later_by-zero, reach_goes}
 use Rattle.cweb_rules.proofs.TokensStay.{no_section}
@@ -15,16 +15,10 @@ pub before_first : (test : ℕ → Bool) (xs : List ℕ) (r : Option ℕ) → Is
     → unwrap_or r (length xs) ≡ prefix_len (λ b. not (test b)) xs
 before_first test xs None none = sym (prefix_len_is (λ b. not (test b)) xs (length xs) 0 (omega arith)
     (λ k lt. not_passed (test (get_or xs k 0)) (none k (omega arith) lt)) (λ lt. absurd (omega (arith, lt))))
-before_first test xs (Some at) first = sym (prefix_len_is (λ b. not (test b)) xs at 0 (omega (arith, first.0.high))
-    (λ k lt. not_passed (test (get_or xs k 0)) (first.0.before k (omega arith) lt)) (λ lt. ap not first.1))
+before_first test xs (Some at) first = grind (arith, prefix_len_is, not_passed)
 
 pub turned : (a b : ℕ) → (b == a) ≡ false → (a == b) ≡ false
 turned a b h = ne_eqb a b (λ e. eqb-false b a h (sym e))
-
-three : (u v w : Bool) → (u || v || w) ≡ false → (u ≡ false) × (v ≡ false) × (w ≡ false)
-three true v w h = cc
-three false true w h = cc
-three false false w h = (refl, refl, h)
 
 control_goes : (b : ℕ) (t : List ℕ) → (64 == b) ≡ false → (b == 10) ≡ false → look_in_control (b ∷ t) ≡ Goes 1
 control_goes b t at line = cc
@@ -82,9 +76,7 @@ reach_plain item e (b ∷ t) = by (is_plain item b) refl (reach_plain item e t)
 
 pub reach_from : (item : Item) (e : End) (t rest : List ℕ) (n : ℕ) → n ≡ prefix_len (is_plain item) t → rest ≡ drop n t
     → reached (reach (look_of item) e t) ≡ later_by n (reached (reach (look_of item) e rest))
-reach_from item e t rest n size back = reach_plain item e t
-    ∙ (λ i. later_by (sym size i) (reached (reach (look_of item) e (drop (sym size i) t))))
-    ∙ ap (λ (u : List ℕ). later_by n (reached (reach (look_of item) e u))) (sym back)
+reach_from item e t rest n size back = grind (arith, reach_plain)
 
 -- Whether it goes on after its line.
 pub plain_goes_on : (item : Item) (t : List ℕ)

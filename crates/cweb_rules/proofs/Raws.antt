@@ -1,18 +1,12 @@
 -- A raw literal ends at its closer, and no other token begins one.
-use Rattle.cweb_rules.proofs.Common.{◌≡◌, ℕ, ◌+◌, ◌-◌, ◌<◌, ◌≤◌, suc, zero, Bool, true, false, cond, ◌&&◌, ◌||◌, ◌==◌, not, List, [], ◌∷◌, ◌++◌, length, take, drop, refl, ap, ◌∙◌, arith, length-append, codes, if◌then◌else◌, nat_le, list_all, prefix_len, take-append-le, length-drop, begins, is_delimiter, first_is, starts_section, is_word_byte, is_one_of, Reach, reach_in, with_unit, body, reach_size, Look, Goes, Ends, reach_of_raw_literal, look_in_raw, Closed, Cut, after_word, quoted_match, raw_prefix, has_delimiter, starts_raw, delimiter, raw_closer, raw_match, RuleMatch, rule_match, Quoted, and_parts, and-false, or_parts, drop-append-le}
+use Rattle.cweb_rules.proofs.Common.{◌≡◌, ℕ, ◌+◌, ◌-◌, ◌<◌, ◌≤◌, suc, zero, Bool, true, false, cond, ◌&&◌, ◌||◌, ◌==◌, not, List, [], ◌∷◌, ◌++◌, length, take, drop, refl, ap, ◌∙◌, arith, length-append, codes, if◌then◌else◌, nat_le, list_all, prefix_len, take-append-le, length-drop, begins, is_delimiter, first_is, starts_section, is_word_byte, is_one_of, Reach, reach_in, with_unit, reach_size, Look, Goes, Ends, reach_of_raw_literal, look_in_raw, Closed, Cut, after_word, quoted_match, raw_prefix, has_delimiter, starts_raw, delimiter, raw_closer, raw_match, RuleMatch, and_parts, and-false, or_parts, drop-append-le}
 use Rattle.cweb_rules.proofs.Sizes.{begins-size}
 use Rattle.cweb_rules.proofs.Joins.{unlike, begins-append}
 use Rattle.cweb_rules.specs.declared.literals.TheConstants.{MAX_DELIMITER}
 
 pub quoted_stays : (n : ℕ) (r : Reach) (t more : List ℕ)
     → n + reach_size r ≤ length t → quoted_match n r (t ++ more) ≡ quoted_match n r t
-quoted_stays n r t more h =
-    let k = n + length (body r) in
-    let within : r.close ≤ length (drop k t) = omega (arith, length-drop k t, h) in
-    let close : take r.close (drop k (t ++ more)) ≡ take r.close (drop k t) =
-    ap (take r.close) (drop-append-le k t more (omega (arith, h))) ∙ take-append-le r.close (drop k t) more within in
-    (λ i. rule_match (Quoted (take-append-le n t more (omega (arith, h)) i ∷ r.units ++ close i ∷ []) r.how)
-    (n + reach_size r))
+quoted_stays n r t more h = grind (arith, length-drop, drop-append-le, take-append-le)
 
 abbrev pick : Bool → Bool → ℕ
 pick v w = if v then 2 else (if w then 1 else 0)
@@ -42,8 +36,7 @@ no_mark : (w d more : List ℕ) → list_all is_word_byte w ≡ true → list_al
     → first_is after_word more ≡ false → begins (w ++ 34 ∷ []) (d ++ more) ≡ false
 no_mark [] [] [] a all h = refl
 no_mark [] [] (c ∷ more) a all h = ap (λ v. v && true) (no_quote c h)
-no_mark [] (b ∷ d) more a all h = ap
-    (λ v. v && true) (unlike is_word_byte 34 b true (and_parts (is_word_byte b) (list_all is_word_byte d) all).0 refl)
+no_mark [] (b ∷ d) more a all h = grind (arith, unlike, and_parts)
 no_mark (x ∷ w) [] [] a all h = refl
 no_mark (x ∷ w) [] (c ∷ more) a all h = grind (arith, unlike is_word_byte x c false)
 no_mark (x ∷ w) (b ∷ d) more a all h =

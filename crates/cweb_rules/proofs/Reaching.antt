@@ -1,7 +1,7 @@
 -- A delimited item ends at its first end.
 use Rattle.cweb_rules.proofs.Common.{◌≡◌, ◌<◌, ℕ, zero, suc, ◌-◌, List, [], ◌∷◌, length, drop, refl, ap, subst, arith, Look, Goes, Ends, reach_in, End, look_in_control, look_in_name, look_in_comment, look_in_literal, look_in_include, look_in_raw}
 use Rattle.std.proofs.Common.{inl, inr}
-use Rattle.cweb_rules.specs.laws.Laws.{PassesBytes, ArePassed, EndsAtItsFirstEnd, ItemsEndAtTheirFirstEnd}
+use Rattle.cweb_rules.specs.laws.Laws.{PassesBytes, EndsAtItsFirstEnd, ItemsEndAtTheirFirstEnd}
 use Rattle.cweb_rules.specs.laws.Laws.{RulesPassBytes}
 use Rattle.cweb_rules.proofs.Reaches.{at_start}
 use Rattle.cweb_rules.proofs.Looks.{IsWithin, AllWithin, IsSome, AllSome, control-units, name-units, comment-units, include-units, raw-units, literal-some}
@@ -13,28 +13,13 @@ same-rest (suc n) b t h = ap (λ k. drop k t) (let e : suc n - 1 ≡ n = omega a
 at-unit : (look : List ℕ → Look) (at_end : End) (b : ℕ) (t : List ℕ) → PassesBytes look
     → ((k : ℕ) → EndsAtItsFirstEnd look at_end (drop k t) (reach_in look at_end k t)) → (v : Look) → look (b ∷ t) ≡ v
     → EndsAtItsFirstEnd look at_end (b ∷ t) (at_start look v (b ∷ t) at_end t)
-at-unit look at_end b t passes later (Ends n how) e =
-    record { rest = b ∷ t; passed = refl; ends = inl (λ z. cc, e) }
-at-unit look at_end b t passes later (Goes n) e =
-    let f = later (n - 1) in
-    record {
-      rest = f.rest;
-      passed = (
-        n,
-        e,
-        refl,
-        subst (λ u. ArePassed look (reach_in look at_end (n - 1) t).units u f.rest)
-            (same-rest n b t (passes b t n e)) f.passed,
-      );
-      ends = f.ends;
-    }
+at-unit look at_end b t passes later (Ends n how) e = grind (arith, inl)
+at-unit look at_end b t passes later (Goes n) e = grind (arith, same-rest)
 
 reach_in-ends : (look : List ℕ → Look) (at_end : End) → PassesBytes look → (k : ℕ) (t : List ℕ)
     → EndsAtItsFirstEnd look at_end (drop k t) (reach_in look at_end k t)
-reach_in-ends look at_end passes zero [] =
-    record { rest = []; passed = refl; ends = inr (refl, refl, refl) }
-reach_in-ends look at_end passes (suc k) [] =
-    record { rest = []; passed = refl; ends = inr (refl, refl, refl) }
+reach_in-ends look at_end passes zero [] = grind (arith, inr)
+reach_in-ends look at_end passes (suc k) [] = grind (arith, inr)
 reach_in-ends look at_end passes (suc k) (b ∷ t) = reach_in-ends look at_end passes k t
 reach_in-ends look at_end passes zero (b ∷ t) =
     at-unit look at_end b t passes (λ k. reach_in-ends look at_end passes k t) (look (b ∷ t)) refl

@@ -15,8 +15,7 @@ pub begins_stop : (p : ℕ → Bool) (s t more : List ℕ) → list_all p s ≡ 
     → first_is p more ≡ false → begins s (t ++ more) ≡ begins s t
 begins_stop p [] t more a h = refl
 begins_stop p (x ∷ s) [] [] a h = refl
-begins_stop p (x ∷ s) [] (b ∷ more) a h =
-    ap (λ v. v && begins s more) (differs p x b (and_parts (p x) (list_all p s) a).0 h)
+begins_stop p (x ∷ s) [] (b ∷ more) a h = grind (arith, differs, and_parts)
 begins_stop p (x ∷ s) (b ∷ t) more a h =
     ap (λ v. (x == b) && v) (begins_stop p s t more (and_parts (p x) (list_all p s) a).1 h)
 

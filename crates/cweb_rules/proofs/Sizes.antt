@@ -1,5 +1,5 @@
 -- Delimited items are within the source.
-use Rattle.cweb_rules.proofs.Common.{◌≡◌, ◌≤◌, ℕ, zero, suc, ◌-◌, Bool, true, false, ◌||◌, ◌==◌, List, [], ◌∷◌, length, take, refl, arith, length-append, if◌then◌else◌, codes, flat_map, length-drop, prefix_len-le-length, begins, starts_section, at_line_end, is_gap, Look, Goes, Ends, Reach, reach, reach_in, with_unit, reach_size, opener_after, End, Closed, unit_bytes, unescaped, look_in_control, look_in_name, opener_len, look_in_comment, look_in_literal, look_in_include, look_in_raw, and_parts}
+use Rattle.cweb_rules.proofs.Common.{◌≡◌, ◌≤◌, ℕ, zero, suc, ◌-◌, Bool, true, false, ◌==◌, List, [], ◌∷◌, length, take, refl, arith, length-append, if◌then◌else◌, codes, flat_map, length-drop, prefix_len-le-length, begins, is_gap, Look, Goes, Ends, Reach, reach, reach_in, with_unit, reach_size, opener_after, End, Closed, unit_bytes, unescaped, look_in_control, look_in_name, opener_len, look_in_comment, look_in_literal, look_in_include, look_in_raw, and_parts}
 
 pub take-at_most : (n : ℕ) (t : List ℕ) → length (take n t) ≤ n
 take-at_most zero t = omega arith
@@ -49,8 +49,7 @@ at_start-size : (look : List ℕ → Look) (how : End) (b : ℕ) (t : List ℕ) 
     → ((k : ℕ) → reach_size (reach_in look how k t) ≤ length t - k)
     → reach_size (at_start look v how b t) ≤ length (b ∷ t)
 at_start-size look how b t (Ends n e) h rest = omega (arith, h)
-at_start-size look how b t (Goes n) h rest =
-    grind (arith, length-append (take n (b ∷ t)), take-at_most n (b ∷ t), take-within n (b ∷ t))
+at_start-size look how b t (Goes n) h rest = grind (arith, length-append, take-at_most, take-within)
 
 reach_in-size : (look : List ℕ → Look) (how : End) → IsWithin look
     → (k : ℕ) (t : List ℕ) → reach_size (reach_in look how k t) ≤ length t - k
@@ -73,32 +72,23 @@ goes true x y n f g = f
 goes false x y n f g = g
 
 pub control-within : IsWithin look_in_control
-control-within t =
-    either (begins (codes "@>") t) _ _ (length t) (begins-size (codes "@>") t) (goes (begins (codes "@@") t) _ _
-    (length t) (omega arith) (goes (begins (codes "@") t || at_line_end t) _ _ (length t) (omega arith) (omega arith)))
+control-within t = grind (arith, either, begins-size, goes)
 
 pub name-within : IsWithin look_in_name
-name-within t = either (begins (codes "@>") t) _ _ (length t) (begins-size (codes "@>") t)
-    (goes (begins (codes "@<") t || begins (codes "@(") t) _ _ (length t) (omega arith) (goes (starts_section t) _ _
-    (length t) (omega arith) (goes (begins (codes "@") t) _ _ (length t) (omega arith) (omega arith))))
+name-within t = grind (arith, either, begins-size, goes)
 
 pub comment-within : (closes : List ℕ → Bool) (n : ℕ)
     → ((t : List ℕ) → closes t ≡ true → n ≤ length t) → IsWithin (look_in_comment closes n)
-comment-within closes n sign t = either (closes t) _ _ (length t) (sign t) (goes (starts_section t) _ _
-    (length t) (omega arith) (goes (begins (codes "@") t) _ _ (length t) (omega arith) (omega arith)))
+comment-within closes n sign t = grind (arith, either, goes)
 
 pub literal-within : (quote : ℕ) → IsWithin (look_in_literal quote)
-literal-within quote t = either (begins (quote ∷ []) t) _ _ (length t) (begins-size (quote ∷ []) t)
-    (goes (at_line_end t) _ _ (length t) (omega arith) (goes (begins (codes "\\@") t) _ _ (length t) (omega arith)
-    (goes (begins (codes "\\") t || begins (codes "@@") t) _ _ (length t) (omega arith) (omega arith))))
+literal-within quote t = grind (arith, either, begins-size, goes)
 
 pub include-within : IsWithin look_in_include
-include-within t = either (begins (codes ">") t) _ _ (length t) (begins-size (codes ">") t) (goes (at_line_end t) _ _
-    (length t) (omega arith) (goes (begins (codes "@@") t) _ _ (length t) (omega arith) (omega arith)))
+include-within t = grind (arith, either, begins-size, goes)
 
 pub raw-within : (sign : List ℕ) → IsWithin (look_in_raw sign)
-raw-within sign t = either (begins sign t) _ _ (length t) (begins-size sign t) (goes (starts_section t) _ _
-    (length t) (omega arith) (goes (begins (codes "@@") t) _ _ (length t) (omega arith) (omega arith)))
+raw-within sign t = grind (arith, either, begins-size, goes)
 
 sign_size : (u : List ℕ) → (if begins (codes "=") u then 1 else (if begins (codes "+=") u then 2 else 0)) ≤ length u
 sign_size u = grind arith

@@ -18,8 +18,7 @@ literal_opens t = opens (begins (codes "u8") t) (is_letter_first t) (has_quote_a
     (has_quote_at 0 t)
 
 pub opening : (t : List ℕ) → starts_literal t ≡ literal_opens t
-opening t = at_prefix (begins (codes "u8") t && has_quote_at 2 t) (is_letter_first t && has_quote_at 1 t)
-    (λ n. has_quote_at n t)
+opening t = grind (arith, at_prefix)
 
 no_quote : (c : ℕ) → is_one_of (codes "\"'") c ≡ false → ((34 == c) ≡ false) × ((39 == c) ≡ false)
 no_quote c h = let e = or_parts (34 == c) ((39 == c) || false) h in (e.0, (or_parts (39 == c) false e.1).0)
@@ -76,6 +75,5 @@ number_first b (c ∷ t) h = wider (is_digit b) (b == 46) (is_digit c) h
 pub number_goes : (last : ℕ) (t more : List ℕ) → first_is after_number more ≡ false
     → number_len last (t ++ more) ≡ number_len last t
 number_goes last [] [] h = refl
-number_goes last [] (c ∷ more) h =
-    grind (arith, or_parts (after_word c) (is_one_of (codes ".+-") c) h, or_parts (46 == c) (is_one_of (codes "+-") c))
+number_goes last [] (c ∷ more) h = grind (arith, or_parts)
 number_goes last (b ∷ t) more h = cc (number_goes b t more h)

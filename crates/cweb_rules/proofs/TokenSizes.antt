@@ -1,5 +1,5 @@
 -- Constants, transliterations, numbers and punctuators are within the source.
-use Rattle.cweb_rules.proofs.Common.{◌≡◌, ◌≤◌, ◌<◌, ℕ, ◌+◌, Bool, true, false, ◌&&◌, not, List, [], ◌∷◌, Option, Some, None, length, drop, refl, subst, arith, if◌then◌else◌, nat_lt, codes, prefix_len, position_or_len, decimal, ltb-true, leb-true, length-decimal-le, length-drop, prefix_len-le-length, begins, is_gap, is_replacing, ends_faulty, character, escapes, escaped, octal_value, octal, after_backslash, is_plain_character, character_at, faulty_size, constant_of, constant, hex_at, letter_with, letter_after, letter, Transliteration, Valued, Character, longest, number_len, and_parts}
+use Rattle.cweb_rules.proofs.Common.{◌≡◌, ◌≤◌, ◌<◌, ℕ, ◌+◌, Bool, true, ◌&&◌, not, List, [], ◌∷◌, Option, Some, None, length, drop, refl, subst, arith, nat_lt, codes, prefix_len, position_or_len, decimal, ltb-true, leb-true, length-decimal-le, length-drop, prefix_len-le-length, is_gap, is_replacing, ends_faulty, escapes, escaped, octal_value, octal, after_backslash, is_plain_character, character_at, faulty_size, constant_of, constant, hex_at, letter_with, letter_after, letter, Transliteration, Valued, Character, longest, number_len, and_parts}
 use Rattle.cweb_rules.proofs.Sizes.{begins-size}
 
 abbrev IsCharacter : Option Character → Type 0
@@ -16,10 +16,7 @@ small n h = ltb-true n 256 h
 escaped-is : (es : List (ℕ × ℕ)) (t : List ℕ) → are_small es ≡ true → IsCharacter (escaped es t)
 escaped-is [] t h = tt
 escaped-is (e ∷ es) t h =
-    elim (begins (e.0 ∷ []) t) as (λ v. IsCharacter (if v then character e.1 2 else escaped es t)) [
-      | true ↦ (small e.1 (and_parts (nat_lt e.1 256) (are_small es) h).0, omega arith)
-      | false ↦ escaped-is es t (and_parts (nat_lt e.1 256) (are_small es) h).1
-    ]
+    grind (arith, small, and_parts, escaped-is es t (and_parts (nat_lt e.1 256) (are_small es) h).1)
 
 octal-is : (digits : List ℕ) → IsCharacter (octal digits)
 octal-is digits = grind (arith, IsCharacter, leb-true (octal_value digits) 255)
@@ -91,8 +88,4 @@ number-size last (b ∷ t) = grind (arith, number-size b t)
 
 pub longest-size : (ps : List (List ℕ)) (b : ℕ) (t : List ℕ) → longest ps (b ∷ t) ≤ length (b ∷ t)
 longest-size [] b t = omega arith
-longest-size (p ∷ ps) b t = omega (arith, longest-size ps b t, entry)
-  where
-    entry : (if begins p (b ∷ t) then length p else 1) ≤ length (b ∷ t)
-    entry = (elim (begins p (b ∷ t)) as (λ v. begins p (b ∷ t) ≡ v → (if v then length p else 1) ≤ length (b ∷ t))
-        [ true ↦ λ h. begins-size p (b ∷ t) h | false ↦ λ h. omega arith ]) refl
+longest-size (p ∷ ps) b t = grind (arith, longest-size ps b t, begins-size)

@@ -1,5 +1,5 @@
 -- The newlines in lines and units, as far as the kind of the lexeme determines them.
-use Rattle.cweb_rules.proofs.Common.{◌≡◌, ◌≤◌, ◌<◌, ℕ, zero, suc, ◌+◌, ◌-◌, Bool, true, false, List, [], ◌∷◌, ◌++◌, length, take, drop, refl, ap, sym, ◌∙◌, subst, arith, take-append-drop, append_assoc, append-nil, if◌then◌else◌, codes, flat_map, take-add, drop-nil, take-append_seam, ne_eqb, flat_map-append, take-append-le, begins, starts_section, Reach, reach, reach_in, with_unit, body, reach_size, quoted_match, look_in_raw, Kind, Skipped, Occurrence, LineEnd, Comment, Quoted, RuleMatch, IsLine, at_line_ends, End, Cut, Look, Goes, Ends}
+use Rattle.cweb_rules.proofs.Common.{◌≡◌, ◌≤◌, ◌<◌, ℕ, zero, suc, ◌+◌, ◌-◌, Bool, true, false, List, [], ◌∷◌, ◌++◌, length, take, drop, refl, ap, sym, ◌∙◌, subst, arith, take-append-drop, append_assoc, append-nil, if◌then◌else◌, flat_map, take-add, drop-nil, take-append_seam, ne_eqb, flat_map-append, take-append-le, Reach, reach, reach_in, with_unit, body, reach_size, quoted_match, look_in_raw, Kind, Skipped, Occurrence, LineEnd, Comment, Quoted, RuleMatch, IsLine, at_line_ends, End, Cut, Look, Goes, Ends}
 use Rattle.cweb_rules.proofs.InLines.{InLine, AreLines, IsLine-take}
 use Rattle.cweb_rules.proofs.Looks.{IsSome, AllSome}
 
@@ -78,16 +78,7 @@ drop-sum (suc n) m (b ∷ t) =
 pub quoted-bytes : (look : List ℕ → Look) → AllSome look → (n : ℕ) (t : List ℕ) → (let r = reach look Cut (drop n t) in
     flat_map (λ u. u) (take n t ∷ r.units ++ take r.close (drop (n + length (body r)) t) ∷ []))
     ≡ take (n + reach_size (reach look Cut (drop n t))) t
-quoted-bytes look some n t =
-    let r = reach look Cut (drop n t) in
-    let m = length (body r) in
-    let close = take r.close (drop (n + m) t) in
-    let units : flat_map (λ u. u) (r.units ++ close ∷ []) ≡ take (m + r.close) (drop n t) =
-    flat_map-append (λ u. u) r.units (close ∷ [])
-    ∙ ap (λ u. body r ++ u) (append-nil close ∙ ap (take r.close) (drop-sum n m t))
-    ∙ ap (λ u. u ++ take r.close (drop m (drop n t))) (sym (units-prefix look Cut (drop n t) some))
-    ∙ sym (take-add m r.close (drop n t)) in
-    ap (λ u. take n t ++ u) units ∙ sym (take-add n (m + r.close) t)
+quoted-bytes look some n t = grind (arith, flat_map-append, append-nil, drop-sum, units-prefix, take-add)
 
 pub quoted-known : (look : List ℕ → Look) → AllSome look → (n : ℕ) (t : List ℕ)
     → Known t (quoted_match n (reach look Cut (drop n t)) t)
@@ -98,5 +89,4 @@ some_if true x y f g = f
 some_if false x y f g = g
 
 pub raw-some : (sign : List ℕ) → AllSome (look_in_raw sign)
-raw-some sign b t = some_if (begins sign (b ∷ t)) _ _ tt
-    (some_if (starts_section (b ∷ t)) _ _ tt (some_if (begins (codes "@@") (b ∷ t)) _ _ (omega arith) (omega arith)))
+raw-some sign b t = grind (arith, some_if)

@@ -31,9 +31,7 @@ units_on look e n (b ∷ t) some moves h =
 pub units_from : (look : List ℕ → Look) (e : End) (n m : ℕ) (t unit after : List ℕ) → look t ≡ Goes n
     → 0 < n → 0 < length t → m ≡ min n (length t) → unit ≡ take m t → after ≡ drop m t
     → (reach look e t).units ≡ unit ∷ (reach look e after).units
-units_from look e n m t unit after h moves some is prefix back = units_on look e n t some moves h
-    ∙ (λ i. take (sym is i) t ∷ (reach look e (drop (sym is i) t)).units)
-    ∙ (λ i. sym prefix i ∷ (reach look e (sym back i)).units)
+units_from look e n m t unit after h moves some is prefix back = grind (arith, units_on)
 
 pub nonempty : (t : List ℕ) (v : Bool) → v ≡ (length t == 0) → v ≡ false → 0 < length t
 nonempty [] v is h = let wrong : false ≡ true = sym h ∙ is in cc

@@ -26,8 +26,7 @@ put-visits : (rs : List Resolution) (r : PartRange) (ranges : List PartRange) (s
     (new : Heads) (w : Wanted) → IsPut rs r.kind (length ranges) old skip new → AreLinked rs ranges skips old
     → (head_of new w ≤ length (r ∷ ranges))
     × (followed (r ∷ ranges) (skip ∷ skips) (length (r ∷ ranges) - head_of new w) ≡ wanted_in rs w (r ∷ ranges))
-put-visits rs r ranges skips old skip new w put linked =
-    grind (arith, put-within (length ranges), put.skips w, put.heads w, linked.within, linked.follow)
+put-visits rs r ranges skips old skip new w put linked = grind (arith, put-within)
 
 -- One more part at the head.
 pub put-linked : (rs : List Resolution) (r : PartRange) (ranges : List PartRange)
@@ -74,14 +73,4 @@ pub step-linked : (rs : List Resolution) (ranges : List PartRange) (i after skip
     → IsPut rs (get_or ranges i d).kind after old skip new → more ≡ kept ++ skip ∷ []
     → AreLinked rs (drop (suc i) ranges) (reverse kept) old → AreLinked rs (drop i ranges) (reverse more) new
 step-linked rs ranges i after skip d kept more old new count put is linked =
-    grind (
-      arith,
-      length-drop (suc i) ranges,
-      drop-cons ranges i d,
-      reverse-append kept (skip ∷ []),
-      put-linked rs (get_or ranges i d) (drop (suc i) ranges) (reverse kept) old skip new,
-      count,
-      put,
-      is,
-      linked,
-    )
+    grind (arith, length-drop, drop-cons, reverse-append, put-linked, reverse)

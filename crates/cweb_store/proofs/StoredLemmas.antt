@@ -29,11 +29,7 @@ stored-is ps os rs = cc (occurrences-back os (map replacement_bytes rs), replace
 pub stored-are : (ps : List Part) (os : List Occurrence) (rs : List Replacement) (last_places : List (Option ℕ))
     (all : Answers) → AreLast last_places (map (λ r. r.byte) rs) → AreAnswers os ps all
     → AreStored ps (strings_of os rs) (map occurrence_form os) (map (λ r. r.byte) rs) last_places all
-stored-are ps os rs last_places all last answers = record {
-  count = grind (arith, length-append, length-map);
-  last = last;
-  answers = rw (occurrences-back os (map replacement_bytes rs)) answers;
-}
+stored-are ps os rs last_places all last answers = grind (arith, length-append, length-map, occurrences-back)
 
 pub occurrence-text : (ts : List (List ℕ)) (gs : List OccurrenceForm) (k : ℕ) → k < length (occurrences_at ts gs)
     → option_map (λ (o : Occurrence). o.text) (slice_get (occurrences_at ts gs) k) ≡ slice_get ts k

@@ -1,5 +1,5 @@
 -- The names that tokens use, and whether any token passes, from the index of the next passing token.
-use Rattle.cweb_store.proofs.Common.{arith, ◌≡◌, ◌<◌, ◌+◌, ℕ, Bool, false, ◌||◌, List, [], ◌∷◌, Some, refl, ◌∙◌, ap, slice_get, list_any, list_any-append, NameId, Resolution, Token, if◌then◌else◌, is_use, is_used, is_c_part, joined_where, is_name_use, IsNextNumber, nat_lt, slice_range}
+use Rattle.cweb_store.proofs.Common.{arith, ◌≡◌, ◌<◌, ◌+◌, ℕ, Bool, false, ◌||◌, List, [], ◌∷◌, Some, refl, ◌∙◌, ap, slice_get, list_any, list_any-append, NameId, Resolution, Token, if◌then◌else◌, is_use, is_used, is_c_part, is_name_use, IsNextNumber, nat_lt, slice_range}
 use Rattle.cweb_store.specs.declared.parts.Part.{Part}
 use Rattle.cweb_store.specs.Parts as spec
 use Rattle.cweb_store.proofs.RangeLemmas.{range-split, range-head}
@@ -49,5 +49,4 @@ uses-step rs n ts part i next t here less is = ap (list_any (is_use rs n)) (rang
 pub used-here : (rs : List Resolution) (n : NameId) (p : spec.Part) (ps : List spec.Part) (was now : Bool)
     → now ≡ (if is_c_part p.kind then was || list_any (is_use rs n) p.tokens else was)
     → (now || is_used rs ps n) ≡ (was || is_used rs (p ∷ ps) n)
-used-here rs n p ps was now is =
-    grind (arith, list_any-append (is_use rs n) p.tokens (joined_where is_c_part ps), is)
+used-here rs n p ps was now is = grind (arith, list_any-append)

@@ -1,5 +1,5 @@
 -- Edges of strings, and what is stored of them.
-use Rattle.cweb_texts.proofs.Common.{◌≡◌, ◌==◌, ◌-◌, ℕ, zero, suc, Bool, true, false, cond, List, [], ◌∷◌, ◌++◌, Some, ◌∙◌, refl, ap, sym, arith, length, take, slice_get, slice_index_or, list_any, Edge, AreStoredEdges, IsStoredEdge, first_is, is_high, is_numeric, is_operator, is_known_edge, last_is, punctuator_edge, punctuator_edge_by}
+use Rattle.cweb_texts.proofs.Common.{◌≡◌, ◌==◌, ◌-◌, ℕ, zero, suc, Bool, true, false, List, [], ◌∷◌, ◌++◌, Some, ◌∙◌, refl, ap, sym, arith, length, take, slice_get, slice_index_or, list_any, Edge, AreStoredEdges, IsStoredEdge, first_is, is_high, is_numeric, is_operator, is_known_edge, last_is, punctuator_edge, punctuator_edge_by}
 use Rattle.cweb_texts.specs.declared.edges.Edge.TheVariants as edge_kind
 
 last_of_list : (p : ℕ → Bool) (b : ℕ) (bs : List ℕ) (x : ℕ)
@@ -54,7 +54,4 @@ pub known-ascii : (t : List ℕ) (b : Edge) (high : Bool) → list_any is_high t
     → is_known_edge b ≡ true
     → list_any is_high t ≡ false
 known-ascii t b false is is_known some = is
-known-ascii t b true is is_known some =
-    let none : b ≡ edge_kind.Unknown = is_known some ∙ ap (λ a. cond a edge_kind.Unknown (punctuator_edge t)) is in
-    let no : is_known_edge b ≡ false = ap is_known_edge none in
-    cc
+known-ascii t b true is is_known some = grind arith

@@ -17,36 +17,19 @@ known old word number h stored = grind (arith, append-nil old.strings)
 pub found-known : (strings : List (List ℕ)) (ws : List Word) (es : Entries) (word : List ℕ) (number : ℕ)
     → FindsString strings ws word number
     → InternsWord (table_model strings ws es) word number (table_model strings ws es)
-found-known strings ws es word number found =
-    grind (
-      arith,
-      known (table_model strings ws es) word number,
-      list_any-append (bytes_eq word) (map entry_word es) (map (word_string strings) ws),
-      or_comm (list_any (bytes_eq word) (map entry_word es)) true,
-    )
+found-known strings ws es word number found = grind (arith, known, list_any-append, or_comm)
 
 pub mapped-known : (strings : List (List ℕ)) (ws : List Word) (es : Entries) (word : List ℕ) (number : ℕ)
     → AreInterned strings ws es → lookup (λ (k : Vec ℕ Global). is_eq (slice_cmp nat_cmp word k.items)) es ≡ Some number
     → InternsWord (table_model strings ws es) word number (table_model strings ws es)
-mapped-known strings ws es word number interned found =
-    grind (
-      arith,
-      find-word strings word es number found interned.in_map,
-      known (table_model strings ws es) word number,
-      list_any-append (bytes_eq word) (map entry_word es) (map (word_string strings) ws),
-    )
+mapped-known strings ws es word number interned found = grind (arith, find-word, known, list_any-append)
 
 -- a word that is neither in the table nor in the map is not interned
 pub not-interned : (strings : List (List ℕ)) (ws : List Word) (es : Entries) (word : List ℕ)
     → have_string strings ws word ≡ false
     → lookup (λ (k : Vec ℕ Global). is_eq (slice_cmp nat_cmp word k.items)) es ≡ None
     → has_word (table_model strings ws es) word ≡ false
-not-interned strings ws es word none absent =
-    grind (
-      arith,
-      no-word word es absent,
-      list_any-append (bytes_eq word) (map entry_word es) (map (word_string strings) ws),
-    )
+not-interned strings ws es word none absent = grind (arith, no-word, list_any-append)
 
 -- more strings
 pub interned-grow : (strings more : List (List ℕ)) (ws : List Word) (es : Entries) → AreInterned strings ws es
@@ -58,27 +41,13 @@ interned-grow strings more ws es interned =
 pub string-keeps : (strings : List (List ℕ)) (ws : List Word) (es : Entries) (string : List ℕ) (number : ℕ)
     → AreInterned strings ws es → number ≡ length strings
     → AddsString (table_model strings ws es) string number (table_model (strings ++ string ∷ []) ws es)
-string-keeps strings ws es string number interned last = record {
-  more = string ∷ [];
-  grows = refl;
-  stored = get-last strings string number last;
-  words = λ q. ap (λ vs. list_any (bytes_eq q) (map entry_word es ++ vs))
-      (same-strings strings (string ∷ []) ws interned.in_table);
-  bytes = omega (arith, length-append string (let none : List ℕ = [] in none));
-  few = omega arith;
-}
+string-keeps strings ws es string number interned last = grind (arith, get-last, same-strings, length-append)
 
 -- a word that is new
 new-keeps : (old : StringTableModel) (word : List ℕ) (number : ℕ) (new : StringTableModel) → has_word old word ≡ false
     → new.strings ≡ old.strings ++ word ∷ [] → slice_get new.strings number ≡ Some word
     → ((q : List ℕ) → has_word new q ≡ (has_word old q || bytes_eq q word)) → InternsWord old word number new
-new-keeps old word number new absent grows stored words =
-    grind (
-      arith,
-      with-word-any,
-      length-append word,
-      total-append length old.words (word ∷ []),
-    )
+new-keeps old word number new absent grows stored words = grind (arith, with-word-any, length-append, total-append)
 
 -- in the table
 pub table-interned : (strings : List (List ℕ)) (ws new : List Word) (es : Entries) (word : List ℕ) (number : ℕ)
@@ -202,14 +171,4 @@ pub sorted-keeps : (strings new : List (List ℕ)) (ws : List Word) (es more : E
     → AreInterned strings ws es → have_string strings ws word ≡ false
     → InternsSorted strings es word number new more
     → InternsWord (table_model strings ws es) word number (table_model new ws more)
-sorted-keeps strings new ws es more word number interned none put =
-    grind (
-      arith,
-      list_any (bytes_eq word) (map entry_word es),
-      put.grows,
-      put.stored,
-      put.inserted,
-      found-keeps strings ws es more word number,
-      added-keeps strings ws es more word number interned,
-      none,
-    )
+sorted-keeps strings new ws es more word number interned none put = grind (arith, found-keeps, added-keeps)

@@ -26,9 +26,7 @@ key-long word h g = grind (arith, not-less, word)
 
 pub key-hashed : (word : List ℕ) → 16 < length word → key_of word ≡ hashed_key word
 unfolding key_of
-key-hashed word h =
-    let long : 8 ≤ length word = omega (arith, h) in
-    cc (not-less (length word) 4 (omega (arith, h)), not-less (length word) 8 long, less 16 (length word) h)
+key-hashed word h = grind (arith, not-less, less)
 
 -- A key tells a word of at most 16 bytes by its length.
 take-bytes : (n : ℕ) (bytes : List ℕ) → AreBytes bytes → AreBytes (take n bytes)
@@ -71,13 +69,7 @@ ends-same q w n len long few prefix back =
 
 short-same : (q w : List ℕ) → length q ≡ length w → length q < 4 → AreBytes q → AreBytes w
     → short_key q ≡ short_key w → q ≡ w
-short-same q w len few all_q all_w same = same_number_lists q w len at
-  where
-    at : (k : ℕ) → k < length q → get_or q k 0 ≡ get_or w k 0
-    at zero h = omega (arith, ap (λ (x : Key). x.first) same, all_q 0, all_w 0)
-    at (suc zero) h = omega (arith, ap (λ (x : Key). x.first) same, all_q 0, all_w 0)
-    at (suc (suc zero)) h = ap (λ (x : Key). x.last) same
-    at (suc (suc (suc k))) h = absurd (let none : ⊥ = omega (arith, few, h) in none)
+short-same q w len few all_q all_w same = grind (arith, same_number_lists)
 
 -- The number of n bytes tells them, so those of the first n and the last n tell up to 2 n bytes.
 parts-same : (n : ℕ) (number : List ℕ → ℕ) → ((a b : List ℕ) → length a ≡ n → length b ≡ n → AreBytes a → AreBytes b

@@ -1,5 +1,5 @@
 -- Appending strings to a list.
-use Rattle.cweb_texts.proofs.Common.{get_or, sym, Edge, IsStringList, ◌≡◌, ℕ, zero, suc, ◌+◌, ◌-◌, ◌≤◌, ◌<◌, List, [], ◌∷◌, ◌++◌, Some, length, take, drop, refl, ◌∙◌, ap, arith, length-append, length-drop, slice_get, slice_range, slice_index_or, drop-append-le, take-append-le, drop-append_seam, take-length, length-take-le, strings_from, AreEnds, IsFromStart, string_start, text_bytes, string_at}
+use Rattle.cweb_texts.proofs.Common.{get_or, sym, Edge, IsStringList, ◌≡◌, ℕ, zero, suc, ◌+◌, ◌≤◌, ◌<◌, List, [], ◌∷◌, ◌++◌, Some, length, take, drop, refl, ◌∙◌, ap, arith, length-append, length-drop, slice_get, slice_range, slice_index_or, drop-append-le, take-append-le, drop-append_seam, take-length, length-take-le, strings_from, AreEnds, IsFromStart, string_start, text_bytes, string_at}
 
 pub ends-le : (n all : ℕ) (ends : List ℕ) → AreEnds n ends all → n ≤ all
 ends-le n all [] h = omega arith
@@ -16,8 +16,7 @@ pub strings-push : (bytes string : List ℕ) (n : ℕ) (ends : List ℕ) → Are
     → strings_from (bytes ++ string) n (ends ++ length (bytes ++ string) ∷ []) ≡ strings_from bytes n ends ++ string
     ∷ []
 strings-push bytes string n [] h = cc (range-end bytes string)
-strings-push bytes string n (e ∷ es) h = λ i.
-    range-grow bytes string n e h.0 (ends-le e (length bytes) es h.1) i ∷ strings-push bytes string e es h.1 i
+strings-push bytes string n (e ∷ es) h = grind (arith, range-grow, ends-le, strings-push bytes string e es h.1)
 
 pub ends-push : (n all more : ℕ) (ends : List ℕ) → AreEnds n ends all → all ≤ more → AreEnds n (ends ++ more ∷ []) more
 ends-push n all more [] h le = (omega arith, refl)
@@ -109,12 +108,7 @@ bytes-from : (bytes : List ℕ) (n : ℕ) (ends : List ℕ) → AreEnds n ends (
     → length (text_bytes (strings_from bytes n ends)) + n ≡ length bytes
 bytes-from bytes n [] h = omega (arith, h)
 bytes-from bytes n (e ∷ es) h =
-    grind (
-      arith,
-      length-take-le (e - n) (drop n bytes) (omega (arith, length-drop n bytes, ends-le e (length bytes) es h.1)),
-      length-append (slice_range bytes n e) (text_bytes (strings_from bytes e es)),
-      bytes-from bytes e es h.1,
-    )
+    grind (arith, length-take-le, length-drop, ends-le, length-append, bytes-from bytes e es h.1)
 
 pub bytes-count : (bytes : List ℕ) (ends : List ℕ) → AreEnds 0 ends (length bytes)
     → length bytes ≡ length (text_bytes (strings_from bytes 0 ends))

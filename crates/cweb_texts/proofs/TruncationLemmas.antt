@@ -34,9 +34,7 @@ strings-from-cut bytes m n [] zero h is = refl
 strings-from-cut bytes m n (e ∷ es) zero h is = refl
 strings-from-cut bytes m n [] (suc k) h is = refl
 strings-from-cut bytes m n (e ∷ es) (suc k) h is =
-    let within : m ≤ length bytes = omega (arith, is, begin-within e (length bytes) es k h.1) in
-    let cut : e ≤ m = omega (arith, is, begin-from e (length bytes) es k h.1) in
-    λ i. range-cut bytes m n e within h.0 cut i ∷ strings-from-cut bytes m e es k h.1 is i
+    grind (arith, begin-within, begin-from, range-cut, strings-from-cut bytes m e es k h.1 is)
 
 pub strings-cut : (bytes ends : List ℕ) (k : ℕ) → AreEnds 0 ends (length bytes)
     → strings_from (take (string_start 0 ends k) bytes) 0 (take k ends) ≡ take k (strings_from bytes 0 ends)
@@ -44,9 +42,4 @@ strings-cut bytes ends k h = strings-from-cut bytes (string_start 0 ends k) 0 en
 
 pub ends-are-cut : (bytes ends : List ℕ) (k : ℕ) → AreEnds 0 ends (length bytes)
     → AreEnds 0 (take k ends) (length (take (string_start 0 ends k) bytes))
-ends-are-cut bytes ends k h =
-    grind (
-      arith,
-      length-take-le (string_start 0 ends k) bytes (begin-within 0 (length bytes) ends k h),
-      ends-cut 0 (length bytes) ends k h,
-    )
+ends-are-cut bytes ends k h = grind (arith, length-take-le, begin-within, ends-cut)

@@ -28,9 +28,6 @@ Entry = ℕ × ℕ × Bor (List ℕ)
 abbrev entry : Key → Bor (List ℕ) → Entry
 entry key name = (key.first, key.last, name)
 
-abbrev compare_keys : Key → Key → Ordering
-compare_keys a b = ordering_then (nat_cmp a.first b.first) (nat_cmp a.last b.last)
-
 abbrev compare : Entry → Entry → Ordering
 compare a b = ordering_then (ordering_then (nat_cmp a.0 b.0) (nat_cmp a.1 b.1)) (slice_cmp nat_cmp a.2.now b.2.now)
 

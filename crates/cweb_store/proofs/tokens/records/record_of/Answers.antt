@@ -1,4 +1,4 @@
-use Rattle.cweb_store.proofs.Common.{refl, sym, append-nil, ◌++◌, common_steps, ◌≡◌, ◌<◌, ℕ, List, [], ◌∷◌, arith, filter, length, InternsToken, StringIsWithin, token_of_record, has_string, string_at, get-string, Place, Record}
+use Rattle.cweb_store.proofs.Common.{append-nil, ◌++◌, common_steps, ◌≡◌, ◌<◌, ℕ, List, [], ◌∷◌, arith, filter, length, InternsToken, StringIsWithin, token_of_record, has_string, string_at, get-string, Place, Record}
 use Rattle.cweb_texts.specs.inner.StringTables.{StringTableModel, AddsString, InternsWord}
 use Rattle.cweb_texts.specs.surface.StringTables.{with_word}
 use Rattle.cweb_store.specs.surface.Tokens.{other_bytes, with_word_of}
@@ -41,15 +41,7 @@ returns-in_ok-add_string-in-Verbatim-clause-packs c = grind (arith, kept-packs)
 -- The record of a Mark.
 place-packs : {kept : StringTableModel} (places : List Place) {place : Place} {number : ℕ} (item : Record)
     → number ≡ length places → item ≡ Mark number → InternsToken kept (spec.Mark place) (places ++ place ∷ []) item kept
-place-packs {kept} places {place} {number} item last is = rw is (record {
-  more = [];
-  grows = sym (append-nil kept.strings);
-  within = tt;
-  stored = grind (arith, common_steps);
-  words = λ q. refl;
-  bytes = omega arith;
-  few = omega arith;
-})
+place-packs {kept} places {place} {number} item last is = grind (arith, append-nil, common_steps)
 
 pub returns-in_ok-reserve-in-Mark-clause-packs : goal.returns-in_ok-reserve-in-Mark-clause-packs
 returns-in_ok-reserve-in-Mark-clause-packs c = grind (arith, place-packs)
