@@ -23,9 +23,7 @@ pub text_lines-last : (line : List ℕ) → HasNoNewline line → 0 < length lin
     cut_lines line ≡ record { bytes = line; size = length line } ∷ []
 text_lines-last [] none some = absurd (omega arith)
 text_lines-last (b ∷ []) none some = no_more b none.0 [] []
-text_lines-last (b ∷ c ∷ line) none some =
-    no_more b none.0 (c ∷ line) [] ∙ ap (onto_first b) (text_lines-last (c ∷ line) none.1 (omega arith))
-    ∙ ap (λ n. record { bytes = b ∷ c ∷ line; size = n } ∷ []) (omega arith)
+text_lines-last (b ∷ c ∷ line) none some = grind (arith, no_more, text_lines-last (c ∷ line) none.1 (omega arith))
 
 pub no_newline-append : (xs ys : List ℕ) → HasNoNewline xs → HasNoNewline ys → HasNoNewline (xs ++ ys)
 no_newline-append [] ys none_x none_y = none_y

@@ -6,7 +6,7 @@ use Rattle.std.proofs.lemmas.List.{get_or_default}
 use Rattle.cweb_input.specs.Lines.{SourceLine, Thing, raw, raws}
 use Rattle.cweb_input.specs.OpenSources.{TakenCountersModel}
 use Rattle.cweb_input.specs.surface.OpenSources.{things_at, things_over, matches_at, source_depth, lines_at, number_or_zero, StopsFor}
-use Rattle.cweb_input.specs.inner.OpenSources.{DeepAt, gap_at, StaysBelow, Pushes, TakesNextLine, TakesFirst, FirstStops, TopStops, AreDeep, files_up_to, line_number, line_number_at, maximum_of, gaps_from}
+use Rattle.cweb_input.specs.inner.OpenSources.{DeepAt, StaysBelow, Pushes, TakesNextLine, TakesFirst, FirstStops, TopStops, AreDeep, files_up_to, line_number, line_number_at, maximum_of, gaps_from}
 use Rattle.cweb_input.specs.inner.LineCalls.{KeepsStack}
 use Rattle.cweb_input.specs.declared.open_source.stack.Stack.{Stack}
 use Rattle.cweb_input.specs.declared.stop.Stop.TheVariants.{ReadFault, LineTooLong, TooMuchText, Memory}
@@ -18,11 +18,7 @@ pub most_at : {R : Type 0} (number : OpenSource R → ℕ) (texts : List (Option
 unfolding maximum_of
 most_at number [] at = omega arith
 most_at number (text ∷ texts) zero = le-max_left (number_or_zero number text) (maximum_of number texts)
-most_at number (text ∷ texts) (suc at) = omega (
-  arith,
-  le-max_right (number_or_zero number text) (maximum_of number texts),
-  most_at number texts at,
-)
+most_at number (text ∷ texts) (suc at) = grind (arith, le-max_right, most_at number texts at)
 
 pub most_read : {R : Type 0} (number : OpenSource R → ℕ) (texts : List (Option (OpenSource R)))
     (at : ℕ) (d : Option (OpenSource R)) → at < length texts
@@ -36,8 +32,7 @@ pub most_set : {R : Type 0} (number : OpenSource R → ℕ) (texts : List (Optio
     → maximum_of number (set texts at slot) ≤ bound
 unfolding maximum_of
 most_set number [] at slot bound each top = each
-most_set number (text ∷ texts) zero slot bound each top = max-le top
-    (omega (arith, le-max_right (number_or_zero number text) (maximum_of number texts)))
+most_set number (text ∷ texts) zero slot bound each top = grind (arith, max-le, le-max_right)
 most_set number (text ∷ texts) (suc at) slot bound each top =
     max-le (omega (arith, le-max_left (number_or_zero number text) (maximum_of number texts)))
     (most_set number texts at slot bound
@@ -170,9 +165,7 @@ pub deep-at : {R : Type 0} (place at p : ℕ) (texts : List (Option (OpenSource 
     p ≡ place + at → at < length texts → gaps_from place texts ≡ 0 → DeepAt p (get_or texts at d)
 unfolding gaps_from
 deep-at place at p [] d is within deep = absurd (omega arith)
-deep-at place zero p (slot ∷ texts) d is within deep =
-    let same : place ≡ p = omega (arith, is) in
-    subst (λ k. DeepAt k slot) same (omega (arith, deep))
+deep-at place zero p (slot ∷ texts) d is within deep = grind arith
 deep-at place (suc at) p (slot ∷ texts) d is within deep = deep-at (suc place) at p texts d (omega (arith, is))
     (omega arith) (omega (arith, deep))
 
@@ -180,13 +173,9 @@ pub deep-set : {R : Type 0} (place at p : ℕ) (texts : List (Option (OpenSource
     p ≡ place + at → gaps_from place texts ≡ 0 → DeepAt p slot → gaps_from place (set texts at slot) ≡ 0
 unfolding gaps_from
 deep-set place at p [] slot is deep top = deep
-deep-set place zero p (text ∷ texts) slot is deep top =
-    let same : p ≡ place = omega (arith, is) in
-    let here : gap_at place slot ≡ 0 = subst (λ k. DeepAt k slot) same top in
-    omega (arith, here, deep)
+deep-set place zero p (text ∷ texts) slot is deep top = grind arith
 deep-set place (suc at) p (text ∷ texts) slot is deep top =
-    let later = deep-set (suc place) at p texts slot (omega (arith, is)) (omega (arith, deep)) top in
-    omega (arith, later, deep)
+    grind (arith, deep-set (suc place) at p texts slot (omega (arith, is)) (omega (arith, deep)) top)
 
 pub stops_map : {A B : Type 0} (stop : Stop) → (A → B) → StopsFor A stop → StopsFor B stop
 stops_map (ReadFault file) map stops = stops
@@ -206,8 +195,4 @@ pub keeps_stack : {R : Type 0} (old new : Stack R) (at : ℕ) (slot : Option (Op
     → new.texts ≡ set old.texts at slot → maximum_of line_number old.texts ≤ after.lines
     → number_or_zero line_number slot ≤ after.lines → number_or_zero files_up_to slot ≤ maximum_of files_up_to old.texts
     → AreDeep old.texts → DeepAt at slot → KeepsStack old new after
-keeps_stack old new at slot after is few number file deep here = record {
-  numbers = rw is (most_set line_number old.texts at slot after.lines few number);
-  files = rw is (most_set files_up_to old.texts at slot (maximum_of files_up_to old.texts) (omega arith) file);
-  deep = rw is (deep-set 0 at at old.texts slot (omega arith) deep here);
-}
+keeps_stack old new at slot after is few number file deep here = grind (arith, most_set, deep-set)

@@ -52,8 +52,7 @@ pub takes_first : (bytes raw old new : List ℕ) (file number depth : ℕ) (may_
 takes_first bytes raw old new file number depth may_match taken before after not takes is short lines size = (
   record {
     line = source_line file number raw taken;
-    is = ap (λ (b : List ℕ). record { bytes = b; place = record { file = record { 0 = file }; line = number } })
-        (sym is);
+    is = grind arith;
     short = short;
     lines = lines;
     bytes_are = size;

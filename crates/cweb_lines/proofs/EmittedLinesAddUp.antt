@@ -1,5 +1,5 @@
 -- The events of consecutive calls are concatenated.
-use Rattle.cweb_lines.proofs.Common.{◌≡◌, ◌+◌, ℕ, List, [], ◌∷◌, ◌++◌, refl, sym, ◌∙◌, ap, subst, arith, length, length-append, append_assoc, Place, Line, SourceLine, Event, took, emitted, fault, opening, SoFar, EmitsLines, EmitsAfterLine, Stopped, StopsAfterLines, ReadFailsAfterLines, CountsLine, emitted_lines, reported_faults, openings, taken_lines, size_of_lines, AreShort, Stop, ReadFault, LineTooLong, TooMuchText, Memory}
+use Rattle.cweb_lines.proofs.Common.{◌≡◌, ◌+◌, ℕ, List, [], ◌∷◌, ◌++◌, refl, ◌∙◌, ap, arith, length, length-append, append_assoc, Place, Line, SourceLine, Event, took, emitted, fault, opening, SoFar, EmitsLines, EmitsAfterLine, Stopped, StopsAfterLines, ReadFailsAfterLines, CountsLine, emitted_lines, reported_faults, openings, taken_lines, size_of_lines, AreShort, Stop, ReadFault, LineTooLong, TooMuchText, Memory}
 
 pub yields_took : (lines : List Line) (old mid new : SoFar) (bytes : List ℕ)
     (place : Place) (t : CountsLine bytes place old.count mid.count) (first all later : List Event)
@@ -64,8 +64,7 @@ yields_both lines more old mid new all now later a b = record {
   names = simp (b.names, a.names, openings-append, append_assoc);
   lines_are = omega (arith, a.lines_are, b.lines_are, lines_taken-append a.events b.events);
   bytes_are = omega (arith, a.bytes_are, b.bytes_are, bytes_taken-append a.events b.events);
-  short = subst AreShort (sym (taken-append a.events b.events))
-      (short-append (taken_lines a.events) (taken_lines b.events) a.short b.short);
+  short = grind (arith, taken-append, short-append);
 }
 
 pub after_both : (lines more : List Line) (stop : Stop) (old mid new : SoFar) (all rest : List Event) →

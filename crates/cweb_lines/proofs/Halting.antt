@@ -70,8 +70,7 @@ after_x_less : (world : World) (bytes : List ℕ) (code : Option Code) (begin : 
     → sought_steps world (after_x bytes code begin line lines later) ≤ 2 + steps_of_change world lines
 after_x_less world [] code begin line lines later less = omega (arith, less (Some begin))
 after_x_less world (b ∷ bs) None begin line lines later less = omega arith
-after_x_less world (b ∷ bs) (Some code) begin line lines later less =
-    omega (arith, outside_less world (Some code) line.line.place later (steps_of_change world lines) less)
+after_x_less world (b ∷ bs) (Some code) begin line lines later less = grind (arith, outside_less)
 
 sought_less : (world : World) (lines : List SourceLine) (begin : Option Place)
     → sought_steps world (sought lines begin) ≤ steps_of_change world lines
@@ -98,8 +97,10 @@ old_less : (world : World) (lines : List SourceLine) (things : List Thing)
 old_less world [] things = record { rest = omega arith; things = omega arith }
 old_less world (line ∷ lines) things = grind (arith, by (change_code line.line.bytes) (old_less world lines))
   where
-    by : (code : Option Code) → ((rest : List Thing) → Drops world (old_lines lines rest) (steps_of_change world lines) rest)
-        → Drops world (old_at code line.line lines things (λ rest. old_lines lines rest)) (steps_of_change world lines) things
+    by : (code : Option Code)
+        → ((rest : List Thing) → Drops world (old_lines lines rest) (steps_of_change world lines) rest)
+        → Drops world (old_at code line.line lines things (λ rest. old_lines lines rest))
+        (steps_of_change world lines) things
     by (Some new_side) less = grind arith
     by None less =
         dropping_less world line.line.bytes things (λ rest. old_lines lines rest) (steps_of_change world lines) less
@@ -152,7 +153,8 @@ module _ (world : World) (r : RawLine) (things : List Thing) (s : MergeStateMode
     included_fewer : (name : List ℕ) → include_name r.source.line.bytes ≡ name
         → Fewer (included name world s r things)
     included_fewer [] is = past_fewer
-    included_fewer (b ∷ bs) is = subst (λ name. Fewer (open_include (nat_lt r.depth OPEN_FILES) world name s r things)) is
+    included_fewer (b ∷ bs) is = subst
+        (λ name. Fewer (open_include (nat_lt r.depth OPEN_FILES) world name s r things)) is
         (opened_fewer (nat_lt r.depth OPEN_FILES) refl)
 
     plain_fewer : (b : Bool) → Fewer (plain b world s r things)

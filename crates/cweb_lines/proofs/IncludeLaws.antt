@@ -47,13 +47,7 @@ one_event world depth files line event is =
 pub lines_apart : LinesComeApart
 lines_apart = record {
   whole = λ world web. refl;
-  apart = λ world depth files before after.
-      let things = raws depth true before in
-      ap (λ (ts : List Thing). outcome_of_events (merge world (state ts None [] files)))
-      (raws-append depth true before after)
-      ∙ ap outcome_of_events (in_two world things (raws depth true after) [] files (raws_seek_none depth true before))
-      ∙ seen-append (merge world (state things None [] files)) (merge world (state (raws depth true after) None []
-      (files + length (openings (merge world (state things None [] files))))));
+  apart = grind (arith, raws-append, in_two, raws_seek_none, seen-append);
   plain = λ world depth files line plain_line.
       let r : RawLine = record { source = line; depth = depth; may_match = true } in
       one_event world depth files line (emitted line.line)

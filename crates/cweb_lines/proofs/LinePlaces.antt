@@ -1,5 +1,5 @@
 -- The places of consecutive lines of a file.
-use Rattle.cweb_lines.proofs.Common.{rules, ◌≡◌, ◌+◌, ℕ, List, [], ◌∷◌, ◌++◌, map, refl, ◌∙◌, ap, arith, length, Line, SourceLine, CutLine, numbered_lines, trimmed, placed, placed_line}
+use Rattle.cweb_lines.proofs.Common.{rules, ◌≡◌, ◌+◌, ℕ, List, [], ◌∷◌, ◌++◌, map, refl, ap, arith, length, SourceLine, CutLine, numbered_lines, trimmed, placed, placed_line}
 use Rattle.cweb_lines.proofs.Entries.{bytes_in, lines_of}
 
 abbrev pub Inside : ℕ → ℕ → List (List ℕ) → List SourceLine → Type 0
@@ -15,11 +15,7 @@ pub bytes_of : (file number : ℕ) (texts : List (List ℕ)) (lines : List Sourc
 bytes_of file number [] [] inside = refl
 bytes_of file number [] (line ∷ lines) inside = absurd (cc)
 bytes_of file number (text ∷ texts) [] inside = absurd (cc)
-bytes_of file number (text ∷ texts) (line ∷ lines) inside =
-    let first : line.line ≡ placed_line file number text = cc in
-    let later : Inside file (number + 1) texts lines = cc in
-    ap (λ (bytes : List ℕ). bytes ∷ bytes_in lines) (ap (λ (l : Line). l.bytes) first)
-    ∙ ap (λ (ls : List (List ℕ)). text ∷ ls) (bytes_of file (number + 1) texts lines later)
+bytes_of file number (text ∷ texts) (line ∷ lines) inside = grind (arith, bytes_of file (number + 1) texts lines (cc))
 
 pub record Parts (file number : ℕ) (first later : List (List ℕ)) (lines : List SourceLine) : Type 0 where
   pub prefix : List SourceLine

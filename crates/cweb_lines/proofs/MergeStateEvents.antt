@@ -22,11 +22,7 @@ pub files_in-at : (faults : List SourceFault) (k : ℕ) (d : SourceFault) → k 
 unfolding files_of_faults
 files_in-at [] k d lt = absurd (omega arith)
 files_in-at (f ∷ faults) zero d lt = omega (arith, le-max_left (f.place.file.0 + 1) (files_of_faults faults))
-files_in-at (f ∷ faults) (suc k) d lt = omega (
-  arith,
-  files_in-at faults k d (omega arith),
-  le-max_right (f.place.file.0 + 1) (files_of_faults faults),
-)
+files_in-at (f ∷ faults) (suc k) d lt = grind (arith, files_in-at faults k d (omega arith), le-max_right)
 
 abbrev pub coming_of : {R : Type 0} → (List ℕ → Option (List ℕ)) → Option (List ℕ) → (R → List ℕ) → Stage →
     Option (OpenSource R) → List ℕ → ℕ → List Thing → List Event

@@ -40,8 +40,7 @@ chain-uses w whole (f ∷ path) again n c a sub h =
 all-fails : (p : NameId → Bool) (before rest : List NameId) (m : NameId)
     → p m ≡ false → list_all p (before ++ (m ∷ rest)) ≡ false
 all-fails p [] rest m h = ap (λ b. b && list_all p rest) h
-all-fails p (x ∷ before) rest m h = elim (p x) as
-    (λ b. (b && list_all p (before ++ (m ∷ rest))) ≡ false) [ true ↦ all-fails p before rest m h | false ↦ refl ]
+all-fails p (x ∷ before) rest m h = grind (arith, all-fails p before rest m h)
 
 circle : (w : Stored) (whole : List NameId) → ((n : NameId) → list_any (is_id n) whole ≡ true → UsesOne w whole n)
     → (k : ℕ) (n : NameId) → list_any (is_id n) whole ≡ true → ends_below w k n ≡ false

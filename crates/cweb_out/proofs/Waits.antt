@@ -37,23 +37,8 @@ fits-pop {w} {marks} {path} f t l r =
     let split = new-pop [] (path_of path) f.name (subst (AreNew []) (path-push path f) t.new) in
     record {
       all = length-set marks f.name.0 Ranked ∙ t.all;
-      ranked = λ n h. elim (eqb_tells n.0 f.name.0) [
-        | inl e ↦ ap (has_rank w) (ap id e.1) ∙ r
-        | inr e ↦ t.ranked n (sym (mark-other marks f.name n Ranked e.1) ∙ h)
-      ];
-      waits = λ n h. elim (eqb_tells n.0 f.name.0) [
-        | inl e ↦
-            let bad : Ranked ≡ Waits =
-            sym (mark-same marks f.name Ranked lt)
-            ∙ ap (mark_of (set marks f.name.0 Ranked)) (sym (ap id e.1)) ∙ h in
-            cc
-        | inr e ↦ elim (split-or (list_any (is_id n) (path_of path))
-            (is_id n f.name) (sym (on-pushed (path_of path) n f.name) ∙ ap (list_any (is_id n)) (sym (path-push path f))
-            ∙ t.waits n (sym (mark-other marks f.name n Ranked e.1) ∙ h))) [
-              | inl a ↦ a
-              | inr b ↦ let bad : true ≡ false = sym b ∙ e.0 in cc
-            ]
-      ];
+      ranked = grind (arith, eqb_tells, inl, inr, mark-other);
+      waits = grind (arith, eqb_tells, inl, mark-same, set, inr, split-or, on-pushed, path-push, mark-other);
       marked = λ n h. elim (eqb_tells n.0 f.name.0) [
         | inl e ↦
             let bad : true ≡ false = sym h ∙ ap (λ m. list_any (is_id m) (path_of path)) (ap id e.1) ∙ split.1 in

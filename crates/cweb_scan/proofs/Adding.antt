@@ -1,5 +1,5 @@
 -- How much the moves of a scan add to a store's size.
-use Rattle.cweb_scan.proofs.Common.{◌≡◌, ◌≤◌, ℕ, List, [], ◌∷◌, refl, arith, Place, Token, Context, Limbo, Blank, Reading, ScanState, next_line, move_to, one, spelling_size, occurrence_size, replacement_size, owed_tokens, AddsAtMost, total-append}
+use Rattle.cweb_scan.proofs.Common.{◌≡◌, ◌≤◌, ℕ, List, [], ◌∷◌, refl, arith, Place, Token, Context, Limbo, Blank, Reading, ScanState, next_line, move_to, spelling_size, occurrence_size, replacement_size, owed_tokens, AddsAtMost, total-append}
 use Rattle.cweb_scan.proofs.Measures.{pushed-size, opened-size, closed-size, dropped-size}
 use Rattle.cweb_scan.proofs.Moves.{Moves, Any, holds_any, size}
 use Rattle.cweb_scan.proofs.TakenItems.{reading}
@@ -26,24 +26,13 @@ adds = record {
   within = λ n w t b x h. omega (arith, x.tokens_are, x.bytes_are, h);
   knowing = λ f. f (holds_any _ _ _);
   advances = λ r. moved-adds r.state r.later;
-  yields = λ t r h. omega (
-    arith,
-    pushed-size one t r.state.contents.parts,
-    pushed-size spelling_size t r.state.contents.parts,
-    same_size t,
-  );
+  yields = grind (arith, pushed-size, same_size);
   faults = λ k p r h. omega arith;
   enters = λ c r h. omega (arith, expected_some r.state.context, expected_some c);
   pays = λ t h x. omega (arith, h, x.tokens_are, x.bytes_are);
-  opens = λ kind r. omega (
-    arith,
-    opened-size one kind r.state.contents.parts,
-    opened-size spelling_size kind r.state.contents.parts,
-  );
-  closes = λ r.
-      omega (arith, closed-size one r.state.contents.parts, closed-size spelling_size r.state.contents.parts);
-  drops = λ r.
-      omega (arith, dropped-size one r.state.contents.parts, dropped-size spelling_size r.state.contents.parts);
+  opens = grind (arith, opened-size);
+  closes = grind (arith, closed-size);
+  drops = grind (arith, dropped-size);
   occurs = λ o r. omega (arith, total-append occurrence_size r.state.contents.occurrences (o ∷ []));
   replaces = λ x r. omega (arith, total-append replacement_size r.state.contents.replacements (x ∷ []));
   folds = λ v r. omega arith;

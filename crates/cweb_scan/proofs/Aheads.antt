@@ -22,10 +22,7 @@ pub read_more : {R : Type 0} (run : MergeState R) (lines : List (List ℕ)) (ahe
     → cost new ≤ cost mid + 3 * (length (span_bytes run ahead.line) + 1)
     → ReadsLines run (lines ++ looks.raw ∷ []) old new
 read_more run lines ahead old mid new looks first reads adds = record {
-  read = λ more.
-      reads more ∙ first.read (line ∷ more)
-      ∙ ap (read_after old) (sym (append_assoc before (line ∷ []) more))
-      ∙ ap (λ (ls : List Line). read_after old (ls ++ more)) (sym looks.emitted);
+  read = grind (arith, append_assoc);
   below = subst (AreLinesBelow (length (opened_file_names run.names))) (sym looks.emitted)
       (All-push (λ (line : Line). line.place.file.0 < length (opened_file_names run.names)) before line first.below
       looks.known);
@@ -72,8 +69,7 @@ read_taken old new lines shelf first all now later pending next takes reads yiel
       (wider (length (opened_file_names old.names))
       (length (opened_file_names new.names)) more_lines names reads.below);
   few = omega (arith, web_size-append taken.lines more_lines, taken.few, reads.few, takes.bytes, takes.count);
-  yields = λ seen it. yields_both taken.lines more_lines first (so_far_of old) (so_far_of new) (all seen) (now seen)
-      (later seen) (taken.yields seen it) (yields seen it);
+  yields = grind (arith, yields_both);
 }
   where
     more_lines : List Line

@@ -132,8 +132,7 @@ lines-count line lines = grind (arith, lexemes-count, leave-same)
 
 pub sections_are_section_starts : (lines : List Line) → SectionsAreSectionStarts lines
 sections_are_section_starts [] = record { number = refl; starred = refl }
-sections_are_section_starts (line ∷ lines) =
-    let c = lines-count line lines in record { number = omega (arith, c.number); starred = c.starred }
+sections_are_section_starts (line ∷ lines) = grind (arith, lines-count)
 
 pub occurrences_are_lexemes : (lines : List Line) → OccurrencesAreLexemes lines
 occurrences_are_lexemes [] = refl

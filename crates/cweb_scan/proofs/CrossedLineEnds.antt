@@ -76,24 +76,17 @@ crossed_at look e b v line (Goes n) within f h =
 
 crossed_in : (look : List ℕ → Look) → CrossesNewline look → (e : End) (k : ℕ) (v line : List ℕ) → k ≤ length v + 1
     → Crosses look k v → IsCrossed look e k v line
-crossed_in look o e zero [] line fits h =
-    let p = newline_at look e line (look (10 ∷ [])) o.newline h in record {
-      on = ap (λ w. at_start look w (10 ∷ line) e line) (o.same line) ∙ p.0;
-      bytes = p.1;
-    }
+crossed_in look o e zero [] line fits h = grind (arith, newline_at)
 crossed_in look o e (suc zero) [] line fits h = record { on = refl; bytes = refl }
 crossed_in look o e (suc (suc k)) [] line fits h = absurd (omega (arith, fits))
-crossed_in look o e (suc k) (b ∷ v) line fits h =
-    let i = crossed_in look o e k v line (omega (arith, fits)) h in record { on = i.on; bytes = i.bytes }
+crossed_in look o e (suc k) (b ∷ v) line fits h = grind (arith, crossed_in look o e k v line (omega (arith, fits)) h)
 crossed_in look o e zero (b ∷ v) line fits h =
     let same : look (b ∷ v ++ 10 ∷ []) ≡ look (b ∷ v) = o.local [] b v in
     let opens = ap (λ w. is_unclosed (at_start look w (b ∷ v ++ 10 ∷ []) Open (v ++ 10 ∷ [])).how) (sym same) ∙ h in
     let p = crossed_at look e b v line (look (b ∷ v)) (o.within b v)
     (λ k g c. crossed_in look o e k v line g c) opens in
     record {
-      on = ap (λ w. at_start look w (b ∷ v ++ 10 ∷ line) e (v ++ 10 ∷ line)) (o.local line b v) ∙ p.0
-          ∙ ap (λ w. after_units (at_start look w (b ∷ v ++ 10 ∷ []) Open (v ++ 10 ∷ [])).units (reach look e line))
-          (sym same);
+      on = grind arith;
       bytes = ap (λ w. body (at_start look w (b ∷ v ++ 10 ∷ []) Open (v ++ 10 ∷ []))) same ∙ p.1;
     }
 

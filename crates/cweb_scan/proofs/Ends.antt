@@ -1,5 +1,5 @@
 -- Items that a line end ends.
-use Rattle.cweb_scan.proofs.Common.{arith, ◌≤◌, ◌≡◌, ℕ, zero, suc, ◌+◌, ◌-◌, true, false, List, [], ◌∷◌, length, take, drop, refl, ap, sym, ◌∙◌, if◌then◌else◌, Place, at_line_end, Reach, reach, reach_in, with_unit, reach_size, line_comment_match, look_in_comment, reached, End, Closed, Cut, Open, Reached, Look, Goes, Ends, Reading, next_line, each_line_end, comment_line_end, pass_comment, pass_control_text, blank, ended_as, Applies, ScanState, look_in_control, look_in_name, look_in_raw, begins, codes, is_line_end, IsEnd}
+use Rattle.cweb_scan.proofs.Common.{arith, ◌≤◌, ◌≡◌, ℕ, zero, suc, ◌+◌, ◌-◌, List, [], ◌∷◌, length, take, drop, refl, ap, sym, ◌∙◌, Place, at_line_end, Reach, reach, reach_in, with_unit, reach_size, line_comment_match, look_in_comment, reached, End, Closed, Cut, Open, Reached, Look, Goes, Ends, Reading, each_line_end, comment_line_end, pass_comment, pass_control_text, blank, ended_as, Applies, ScanState, look_in_control, look_in_name, look_in_raw, begins, codes, IsEnd}
 use Rattle.cweb_rules.specs.Matches.{control_text_match}
 use Rattle.cweb_rules.specs.Items.{look_in_include}
 use Rattle.cweb_rules.specs.declared.items.Item.{Item}
@@ -22,8 +22,7 @@ one_look : (look : List ℕ → Look) (e : End) (u t : List ℕ) (v : Look)
     → IsSome v → ((k : ℕ) → reach_in look e k t ≡ at_end e (reach_in look Open k t))
     → at_start look v u e t ≡ at_end e (at_start look v u Open t)
 one_look look e u t (Goes n) h f = ap (with_unit (take n u)) (f (n - 1))
-one_look look e u t (Ends n how) h f =
-    ap (λ (w : End). record { units = []; close = n; how = w }) (ended_same e how h)
+one_look look e u t (Ends n how) h f = grind (arith, ended_same)
 
 reach_in-at_end : (look : List ℕ → Look) → AllSome look → (e : End) (k : ℕ) (t : List ℕ)
     → reach_in look e k t ≡ at_end e (reach_in look Open k t)
@@ -50,8 +49,7 @@ reach-at_end item e t = reach_in-at_end (look_of item) (item-some item) e 0 t
 
 pub size-at_end : (item : Item) (e : End) (t : List ℕ) (r : Reached) → r ≡ reached (reach (look_of item) Open t)
     → r.size + r.close ≡ reach_size (reach (look_of item) e t)
-size-at_end item e t r is =
-    ap (λ (v : Reached). v.size + v.close) is ∙ ap reach_size (sym (reach-at_end item e t))
+size-at_end item e t r is = grind (arith, reach-at_end)
 
 pub extent_fits : (item : Item) (t : List ℕ) (r : Reached) → r ≡ reached (reach (look_of item) Open t)
     → r.size + r.close ≤ length t
@@ -59,8 +57,7 @@ extent_fits item t r is = omega (arith, ap (λ (v : Reached). v.size + v.close) 
 
 pub how-at_end : (item : Item) (e : End) (t : List ℕ) (r : Reached) → r ≡ reached (reach (look_of item) Open t)
     → ended_as e r.how ≡ (reach (look_of item) e t).how
-how-at_end item e t r is =
-    ap (λ (v : Reached). ended_as e v.how) is ∙ ap (λ (v : Reach). v.how) (sym (reach-at_end item e t))
+how-at_end item e t r is = grind (arith, reach-at_end)
 
 pub control_yields : (t : List ℕ) (r : Reached) (s new : ScanState) → r ≡ reached
     (reach look_in_control Open (drop 2 t))
@@ -77,11 +74,7 @@ nothing_later s = record { state = s; later = [] }
 pub none_to_come : (f : Place → ScanState → ScanState) (t : List ℕ) (s : ScanState)
     → each_line_end f t (nothing_later s) ≡ nothing_later s
 none_to_come f [] s = refl
-none_to_come f (b ∷ t) s = elim (is_line_end b)
-    as (λ v. each_line_end f t (if v then next_line f (nothing_later s) else nothing_later s) ≡ nothing_later s) [
-      | true ↦ none_to_come f t s
-      | false ↦ none_to_come f t s
-    ]
+none_to_come f (b ∷ t) s = grind (arith, none_to_come f t s)
 
 pub line_comment_yields : (t : List ℕ) (r : Reached) (s new : ScanState)
     → r ≡ reached (reach (look_in_comment at_line_end 0) Open (drop 2 t)) → new

@@ -40,8 +40,7 @@ unit_stays (b ∷ t) h = ap (λ v. if v && bytes_eq t (codes "@") then codes "@"
 
 pub text_stays : (us : List (List ℕ)) → HasNone (flat_map (λ u. u) us) → unescaped us ≡ flat_map (λ u. u) us
 text_stays [] h = refl
-text_stays (u ∷ us) h =
-    let p = none_apart u (flat_map (λ u. u) us) h in (λ i. unit_stays u p.0 i ++ text_stays us p.1 i)
+text_stays (u ∷ us) h = grind (arith, none_apart, unit_stays, text_stays us (none_apart u (flat_map (λ u. u) us) h).1)
 
 unit_reported : (u : List ℕ) (s : ScanState) → HasNone u → literal_unit (nothing_later s) u ≡ nothing_later s
 unit_reported [] s h = refl
@@ -51,8 +50,7 @@ units_reported : (us : List (List ℕ)) (s : ScanState) → HasNone (flat_map (�
     → fold literal_unit (nothing_later s) us ≡ nothing_later s
 units_reported [] s h = refl
 units_reported (u ∷ us) s h =
-    let p = none_apart u (flat_map (λ u. u) us) h in
-    ap (λ (q : Reading). fold literal_unit q us) (unit_reported u s p.0) ∙ units_reported us s p.1
+    grind (arith, none_apart, unit_reported, units_reported us s (none_apart u (flat_map (λ u. u) us) h).1)
 
 abbrev pub literal_reach : List ℕ → End → Reach
 literal_reach u e =

@@ -1,5 +1,5 @@
 -- Each lexeme of a scan satisfies the relation of the moves, and how much it emits at most.
-use Rattle.cweb_scan.proofs.Common.{◌≡◌, ◌≤◌, ℕ, ◌+◌, ◌*◌, Bool, true, false, ◌&&◌, ◌==◌, List, [], ◌∷◌, Some, None, length, refl, ap, sym, ◌∙◌, arith, if◌then◌else◌, codes, bytes_eq, flat_map, fold, decimal, Place, Word, Number, Context, Limbo, Definition, unescaped, Kind, Lexeme, Skipped, Section, Code, Letter, ControlText, Constant, Blanks, LineEnd, Comment, Quoted, Defined, Identifier, Numeral, Punctuator, at_line_ends, Pays, Reading, on, next_line, each_line_end, literal_unit, stays_in_head, enter_in, enter, item, after_lexeme, comment_line_end, ScanState, move_to, drop_definition, is_line_end, owed_tokens, ReplacementTooLong, FaultyConstant}
+use Rattle.cweb_scan.proofs.Common.{◌≡◌, ◌≤◌, ℕ, ◌+◌, ◌*◌, Bool, true, false, List, [], ◌∷◌, Some, None, length, refl, ap, arith, if◌then◌else◌, codes, bytes_eq, flat_map, fold, decimal, Place, Word, Number, Context, Limbo, Definition, unescaped, Kind, Lexeme, Skipped, Section, Code, Letter, ControlText, Constant, Blanks, LineEnd, Comment, Quoted, Defined, Identifier, Numeral, Punctuator, at_line_ends, Pays, Reading, on, next_line, each_line_end, literal_unit, stays_in_head, enter_in, enter, item, after_lexeme, comment_line_end, ScanState, move_to, drop_definition, is_line_end, ReplacementTooLong, FaultyConstant}
 use Rattle.cweb_rules.proofs.UnitNewlines.{Tells, none-ends, ends-append}
 use Rattle.cweb_rules.specs.Matches.{Occurrence, Verbatim}
 use Rattle.cweb_scan.proofs.Moves.{Moves, OfHead}
@@ -7,16 +7,13 @@ use Rattle.cweb_scan.proofs.Moves as step
 
 no_line_ends : (t : List ℕ) → at_line_ends 0 t ≡ 0
 no_line_ends [] = refl
-no_line_ends (b ∷ t) = elim (is_line_end b) as (λ v. (if v then 0 + at_line_ends 0 t else at_line_ends 0 t) ≡ 0)
-    [ true ↦ omega (arith, no_line_ends t) | false ↦ no_line_ends t ]
+no_line_ends (b ∷ t) = grind (arith, no_line_ends t)
 
 -- An `@` is no newline.
 sign-none : (u : List ℕ) → bytes_eq u (codes "@") ≡ true → at_line_ends 1 u ≡ 0
 sign-none [] h = refl
-sign-none (b ∷ []) h =
-    none-ends (b ∷ []) ((λ e. let wrong : false ≡ true = sym (ap (λ x. bytes_eq (x ∷ []) (codes "@")) e) ∙ h in cc), tt)
-sign-none (b ∷ d ∷ u) h = (elim (b == 64) as
-    (λ v. (v && false) ≡ true → at_line_ends 1 (b ∷ d ∷ u) ≡ 0) [ true ↦ λ k. cc | false ↦ λ k. cc ]) h
+sign-none (b ∷ []) h = grind (arith, none-ends)
+sign-none (b ∷ d ∷ u) h = grind arith
 
 -- Tokens owed before a head ends are owed after it.
 enter-defined : (c : Context) (tight : Bool) (s : ScanState) → enter_in c (Defined tight) s ≡ s
@@ -25,8 +22,7 @@ enter-defined _ tight s = refl
 
 pub pays_entered : (k : Kind) (bytes : List ℕ) (s : ScanState) → Pays s.context k bytes
     → Pays (enter k s).context k bytes
-pays_entered (Defined tight) bytes s pays =
-    (pays.0, ap (λ (u : ScanState). owed_tokens u.context) (enter-defined s.context tight s) ∙ pays.1)
+pays_entered (Defined tight) bytes s pays = grind (arith, enter-defined)
 pays_entered _ bytes s pays = pays
 
 -- Each byte adds at most three: to the weight, the tokens and the bytes of strings.

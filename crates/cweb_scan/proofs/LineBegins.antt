@@ -1,5 +1,5 @@
 -- The start of a line for any reader, and the end of the source.
-use Rattle.cweb_scan.proofs.Common.{◌≡◌, ◌≤◌, ℕ, Bool, true, false, List, ◌∷◌, ◌++◌, refl, sym, subst, arith, Place, Line, line_end, ReaderModel, OpenItem, Between, Pending, is_pending, read_after, source_ended, BeginsLine, TakesLineEnd, TakesBytes, cost, weight, drop, ScanState}
+use Rattle.cweb_scan.proofs.Common.{◌≡◌, ◌≤◌, ℕ, Bool, true, false, List, ◌∷◌, refl, subst, arith, Place, Line, line_end, ReaderModel, OpenItem, Between, Pending, is_pending, read_after, source_ended, BeginsLine, TakesLineEnd, TakesBytes, cost, weight, drop, ScanState}
 use Rattle.cweb_scan.proofs.FirstMatchTaken.{between}
 use Rattle.cweb_scan.proofs.PendingItems.{pending-weight}
 use Rattle.cweb_scan.proofs.LineEnds.{run-newline}
@@ -9,8 +9,7 @@ use Rattle.cweb_scan.proofs.Weights.{line_end-weight}
 -- A newline between two items.
 pub line_ends : (q : Place) (line : List ℕ) (s : ScanState) (g : Bool) → g ≡ true
     → TakesLineEnd q line 0 (between s g) (between (line_end q s) g)
-line_ends q line s g begun =
-    record { begun = begun; same = λ later more e. sym (run-newline q s later (line ++ more)) }
+line_ends q line s g begun = grind (arith, run-newline)
 
 pub not_pending : (i : OpenItem) → is_pending i ≡ false → i ≡ Between
 not_pending Between h = refl

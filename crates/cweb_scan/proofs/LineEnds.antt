@@ -1,5 +1,5 @@
 -- The effect of a newline between two items.
-use Rattle.cweb_scan.proofs.Common.{◌≡◌, ℕ, ◌-◌, Bool, List, [], ◌∷◌, take, refl, ap, ◌∙◌, fold, Place, Context, Limbo, TeX, match_in, Kind, Skipped, LineEnd, RuleMatch, rule_match, Lexeme, ScanState, names_include, Reading, line_end_in, line_end, enter_in, item, after_lexeme, lexemes_in, lex}
+use Rattle.cweb_scan.proofs.Common.{◌≡◌, ℕ, Bool, List, [], ◌∷◌, refl, ap, Place, Context, Limbo, TeX, match_in, Kind, Skipped, LineEnd, rule_match, ScanState, line_end_in, line_end, enter_in, item, lex, arith}
 use Rattle.cweb_scan.proofs.TakenItems.{reading}
 
 abbrev newline_kind : Context → Kind
@@ -22,13 +22,7 @@ item-newline Limbo q s later h = refl
 item-newline TeX q s later h = refl
 item-newline _ q s later h = ap (λ c. reading (line_end_in c q s) later) h
 
-abbrev from_prefix : Reading → List ℕ → RuleMatch → Reading
-from_prefix r t f =
-    let p : Lexeme = record { kind = f.kind; bytes = take f.size (10 ∷ t) } in
-    fold after_lexeme (after_lexeme r p) (lexemes_in (f.size - 1) (after_lexeme r p) t)
-
 -- Between two items.
 pub run-newline : (q : Place) (s : ScanState) (later : List Place) (t : List ℕ)
     → lex (reading s (q ∷ later)) (10 ∷ t) ≡ lex (reading (line_end q s) later) t
-run-newline q s later t = ap (from_prefix (reading s (q ∷ later)) t) (prefix-newline s.context (names_include s) t)
-    ∙ ap (λ (r : Reading). lex r t) (item-newline s.context q s later refl)
+run-newline q s later t = grind (arith, prefix-newline, item-newline)

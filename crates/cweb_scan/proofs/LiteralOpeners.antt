@@ -9,13 +9,11 @@ enter_quoted _ us how s h = cc
 
 pub c_prefix_raw : (effect : ℕ → Effect) (takes_opener includes : Bool) (t : List ℕ)
     → IsPast t → starts_raw t ≡ true → c_match effect takes_opener includes t ≡ raw_match t
-c_prefix_raw effect takes_opener includes t p h =
-    rw (p.blank, p.line_end, p.comment, p.line_comment, p.section, p.code, h)
+c_prefix_raw effect takes_opener includes t p h = grind arith
 
 pub c_prefix_literal : (effect : ℕ → Effect) (takes_opener includes : Bool) (t : List ℕ) → IsPast t
     → starts_raw t ≡ false → starts_literal t ≡ true → c_match effect takes_opener includes t ≡ literal_match t
-c_prefix_literal effect takes_opener includes t p g h =
-    rw (p.blank, p.line_end, p.comment, p.line_comment, p.section, p.code, g, h)
+c_prefix_literal effect takes_opener includes t p g h = grind arith
 
 pub past-line : (b : ℕ) (t more : List ℕ) → AtLineEnd more → IsPast (b ∷ t) → IsPast (b ∷ t ++ more)
 past-line b t more e p = grind (arith, begins_line, starts_section_line)

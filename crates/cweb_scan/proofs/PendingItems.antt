@@ -85,8 +85,7 @@ pending_newlines w line k h =
     )
 
 pub all_newlines : (w line : List ℕ) → IsLine line → at_line_ends 1 (with_line w line) ≡ at_line_ends 1 w + 1
-all_newlines w line h =
-    omega (arith, ends-append (w ++ 10 ∷ []) line, ends-append w (10 ∷ []), none-ends line h)
+all_newlines w line h = grind (arith, ends-append, none-ends)
 
 -- So many newlines fit into the bytes.
 pub newlines_fit : (t : List ℕ) → at_line_ends 1 t ≤ length t
@@ -97,8 +96,7 @@ pub begins_more : (sign w more : List ℕ) → begins sign w ≡ true → begins
 begins_more [] w more h = refl
 begins_more (x ∷ sign) [] more h = cc
 begins_more (x ∷ sign) (b ∷ w) more h =
-    let p = and_parts (x == b) (begins sign w) h in
-    and_from (x == b) (begins sign (w ++ more)) p.0 (begins_more sign w more p.1)
+    grind (arith, and_parts, and_from, begins_more sign w more (and_parts (x == b) (begins sign w) h).1)
 
 -- The whole source of a pending item that the source's end ends.
 pub pending_finished : (s new : ScanState) (u : List ℕ) (ps : List Place) (n : ℕ) (f : RuleMatch) → 1 ≤ length u

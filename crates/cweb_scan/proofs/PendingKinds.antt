@@ -1,5 +1,5 @@
 -- Pending items of any kind, with the next line.
-use Rattle.cweb_scan.proofs.Common.{◌≡◌, ◌≤◌, ℕ, ◌+◌, Bool, true, false, List, [], ◌∷◌, ◌++◌, length, take, refl, ap, sym, ◌∙◌, subst, arith, codes, length-append, Place, begins, at_line_ends, look_in_comment, look_in_name, look_in_literal, look_in_raw, opens_in, IsLine, AtLineEnd, Context, literal_prefix, enter_in, next_match, RuleMatch, ScanState, is_between, IsItem, IsPending, IsPast, starts_name, takes_opener, with_line, AppliesOver, lex, ◌-◌, comment_match, name_match, literal_match, raw_match, HasItemRoom, CanTake, ReaderModel, Pending, cost, too_many, ◌<◌}
+use Rattle.cweb_scan.proofs.Common.{◌≡◌, ◌≤◌, ℕ, ◌+◌, Bool, true, false, List, [], ◌∷◌, ◌++◌, length, refl, ap, sym, ◌∙◌, subst, arith, codes, length-append, Place, begins, at_line_ends, look_in_comment, look_in_name, look_in_literal, look_in_raw, opens_in, IsLine, AtLineEnd, Context, literal_prefix, enter_in, next_match, RuleMatch, ScanState, is_between, IsItem, IsPending, IsPast, starts_name, takes_opener, with_line, AppliesOver, lex, ◌-◌, comment_match, name_match, literal_match, raw_match, HasItemRoom, CanTake, ReaderModel, Pending, cost, too_many, ◌<◌}
 use Rattle.cweb_scan.proofs.OpeningSteps.{opened}
 use Rattle.cweb_rules.specs.inner.LineItems.{goes_on, opens_comment, opens_name, opens_literal, opens_raw}
 use Rattle.cweb_rules.specs.inner.LineItems.{raw_closer_of}
@@ -134,13 +134,11 @@ item_ended kind s w ps k h =
 -- The code takes what it holds.
 pub can_take : (kind : code.Open) (s : ScanState) (t u : List ℕ) (ps qs : List Place) → t ≡ u → ps ≡ qs
     → CanTake kind u qs s → CanTake kind t ps s
-can_take kind s t u ps qs text places h = subst (λ (v : List ℕ). CanTake kind v ps s) (sym text)
-    (subst (λ (v : List Place). CanTake kind u v s) (sym places) h)
+can_take kind s t u ps qs text places h = grind arith
 
 pub applies_to : (s new : ScanState) (t u : List ℕ) (ps qs : List Place) (n : ℕ) → t ≡ u → ps ≡ qs
     → AppliesOver (next_match s t) t ps n s new → AppliesOver (next_match s u) u qs n s new
-applies_to s new t u ps qs n text places h = subst (λ (v : List ℕ). AppliesOver (next_match s v) v qs n s new) text
-    (subst (λ (v : List Place). AppliesOver (next_match s t) t v n s new) places h)
+applies_to s new t u ps qs n text places h = grind arith
 
 -- The item with a line that leaves it open.
 pub stays_with : (kind : code.Open) (s : ScanState) (w line : List ℕ) (ps : List Place) (q : Place)
@@ -169,18 +167,7 @@ ends_with kind s w line ps q k h clean ends =
     record {
       size = m;
       past = size;
-      ready = λ room. record {
-        pending = k;
-        item = i;
-        lines = ap (λ n. at_line_ends 1 (take n u)) size
-            ∙ omega (arith, pending_newlines w line m clean, h.newlines, longer);
-        room = record {
-          for_tokens = omega (arith, room.for_tokens, longer);
-          for_a_part = room.for_a_part;
-          for_an_occurrence = room.for_an_occurrence;
-          for_a_section = room.for_a_section;
-        };
-      };
+      ready = grind (arith, pending_newlines);
       taken = λ n new applies. takes_whole s new u (ps ++ q ∷ []) n (next_match s u)
           (item_some kind s.context u k i) (item_stays kind s u k i) refl ends applies;
     }
@@ -194,13 +181,7 @@ ends_source kind s new w ps n k h applies = pending_finished s new w ps n (next_
 
 pub ready_at_end : (kind : code.Open) (s : ScanState) (w : List ℕ) (ps : List Place) → is_between kind ≡ false
     → IsPending kind s.context w ps → HasItemRoom (length ps + 2) s → CanTake kind w ps s
-ready_at_end kind s w ps k h room = record {
-  pending = k;
-  item = h.item;
-  lines = ap (λ n. at_line_ends 1 (take n w)) (item_ended kind s w ps k h)
-      ∙ ap (at_line_ends 1) (take_all (length w) w (omega arith)) ∙ h.newlines;
-  room = room;
-}
+ready_at_end kind s w ps k h room = grind (arith, item_ended, take_all)
 
 -- The room that a pending item has.
 pub pending_room : (h : ReaderModel) (s : ScanState) (g : Bool) (w : List ℕ) (ps : List Place) (n : ℕ)

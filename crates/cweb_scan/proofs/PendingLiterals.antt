@@ -1,5 +1,5 @@
 -- Literals that are open at the end of their line.
-use Rattle.cweb_scan.proofs.Common.{ℕ, ◌≡◌, ◌≤◌, ◌+◌, Bool, true, false, ◌&&◌, List, [], ◌∷◌, ◌++◌, length, drop, refl, ap, ◌∙◌, arith, codes, length-drop, drop-append-le, begins, look_in_literal, look_in_raw, reach, reach_size, raw_match, literal_match, literal_prefix, quote_of, raw_prefix, starts_raw, starts_literal, RuleMatch, Quoted, End, Cut, Open, AtLineEnd, IsLocal, is_unclosed, opens_in, c_opens, Context, Macro, CText, enter_in, names_include, ScanState, reads_literals, IsPast, with_line, at_line_end, in_macro, in_c, and_parts, Effect, c_match, rule_match, if◌then◌else◌}
+use Rattle.cweb_scan.proofs.Common.{ℕ, ◌≡◌, ◌≤◌, ◌+◌, Bool, true, false, List, [], ◌∷◌, ◌++◌, length, drop, refl, ap, ◌∙◌, arith, codes, length-drop, drop-append-le, begins, look_in_literal, look_in_raw, reach, reach_size, raw_match, literal_match, literal_prefix, quote_of, raw_prefix, starts_raw, starts_literal, RuleMatch, Quoted, End, Cut, Open, AtLineEnd, IsLocal, is_unclosed, opens_in, c_opens, Context, Macro, CText, enter_in, names_include, ScanState, reads_literals, IsPast, with_line, in_c, and_parts, Effect, c_match, rule_match}
 use Rattle.cweb_rules.specs.inner.LineItems.{opens_raw, opens_literal, goes_on, raw_opener_len, raw_closer_of}
 use Rattle.cweb_rules.proofs.LineDelimiters.{raw_prefix-line, delimiter-line, sign-fits, has_delimiter-size, closing_sign-in_line}
 use Rattle.cweb_rules.proofs.LineLiterals.{literal_prefix-line, is_quoted-size}
@@ -23,8 +23,7 @@ raw_fits w starts = grind (arith, and_parts, sign-fits, has_delimiter-size, leng
 opens_first : (c : Context) (b : ℕ) (t : List ℕ) (v : Bool) → reads_literals c ≡ true
     → begins (codes "\\") (b ∷ t) ≡ false → ((effect : ℕ → Effect) → c_opens effect (b ∷ t) ≡ v)
     → opens_in c (b ∷ t) ≡ v
-opens_first Macro b t v h g k =
-    ap (λ x. if x && at_line_end t then false else c_opens in_macro (b ∷ t)) g ∙ k in_macro
+opens_first Macro b t v h g k = grind arith
 opens_first CText b t v h g k = k in_c
 opens_first _ b t v h g k = cc
 

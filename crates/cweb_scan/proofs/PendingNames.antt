@@ -42,9 +42,7 @@ name_applies t ps r opener taken s new is after take_is lines made =
     let units : unescaped (reach look_in_name Open (drop 2 t)).units ≡ unescaped m.units =
     ap (λ (v : Reach). unescaped v.units) (sym (reach-at_end item.Name Cut (drop 2 t))) in
     record {
-      size = sized (takes_opener s) (2 + (r.size + r.close)) (2 + reach_size m) opener _ taken (ap
-          (λ n. 2 + n) size) sign
-          take_is;
+      size = grind arith;
       state = λ later.
           ap (on (occurrence (begins (codes "@(") t) (unescaped m.units) m.how
           (nat_lt 0 (opener_after m.how (drop (2 + reach_size m) t))) s.here))

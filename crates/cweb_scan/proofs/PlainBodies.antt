@@ -1,5 +1,5 @@
 -- Bodies of literals without `@`: their units are taken as one.
-use Rattle.cweb_scan.proofs.Common.{◌≡◌, ℕ, ◌&&◌, List, [], ◌∷◌, ◌++◌, take, refl, ap, sym, ◌∙◌, subst, arith, flat_map, fold, bytes_eq, append-nil, fold-append, if◌then◌else◌, Place, at_line_ends, reach, body, Open, reached, Reading, literal_unit, each_line_end, move_to, on, report, DoubleAtInString, ScanState, PassesUnits}
+use Rattle.cweb_scan.proofs.Common.{◌≡◌, ℕ, List, [], ◌∷◌, ◌++◌, take, refl, ap, sym, ◌∙◌, subst, arith, flat_map, fold, append-nil, fold-append, if◌then◌else◌, Place, at_line_ends, reach, body, Open, reached, Reading, literal_unit, each_line_end, move_to, ScanState, PassesUnits}
 use Rattle.cweb_rules.specs.Bytes.{is_line_end}
 use Rattle.cweb_rules.specs.declared.items.Item.{Item}
 use Rattle.cweb_rules.specs.inner.LineItems.{look_of}
@@ -11,8 +11,7 @@ use Rattle.cweb_scan.proofs.TakenItems.{reading}
 
 unit_passes : (u : List ℕ) (r : Reading) → HasNone u → literal_unit r u ≡ each_line_end move_to u r
 unit_passes [] r h = refl
-unit_passes (b ∷ t) r h = ap (λ v. if v && bytes_eq t [] then on (report DoubleAtInString) r
-    else each_line_end move_to (b ∷ t) r) h.0
+unit_passes (b ∷ t) r h = grind arith
 
 units_pass : (us : List (List ℕ)) (r : Reading) → HasNone (flat_map (λ u. u) us)
     → fold literal_unit r us ≡ each_line_end move_to (flat_map (λ u. u) us) r
@@ -39,5 +38,4 @@ passes_as_one us whole a b s t is none one = record {
 -- The bytes of the units.
 pub whole_is : (item : Item) (inner whole : List ℕ) (size : ℕ) → size ≡ (reached (reach (look_of item) Open inner)).size
     → whole ≡ take size inner → whole ≡ body (reach (look_of item) Open inner)
-whole_is item inner whole size is text =
-    text ∙ ap (λ n. take n inner) is ∙ units-prefix (look_of item) Open inner (item-some item)
+whole_is item inner whole size is text = grind (arith, units-prefix, item-some)

@@ -1,5 +1,5 @@
 -- Reading a token's bytes and what follows them.
-use Rattle.cweb_scan.proofs.Common.{◌≡◌, ℕ, ◌+◌, ◌<◌, ◌/◌, ◌%◌, suc, zero, Bool, true, false, cond, ◌==◌, List, [], ◌∷◌, ◌++◌, Some, length, take, drop, refl, ap, ◌∙◌, arith, append_assoc, length-append, codes, decimal, digit_glyph, digits_onto, list_all, take-append_seam, drop-append_seam, Token, first_is, JoinsAll, IsToken, is_token, is_quiet, begins_as, match_in, Kind, rule_match, CText, Effect, EmitAt, End, Closed, Reading, after_lexeme, some_include, names_include, next_match, lex, InPlainC, IsReadAs, ReadsAlone, doubled, significant, token_of, literal_token, spelling_of, is_hash, same_Some, and_from, nat_tests}
+use Rattle.cweb_scan.proofs.Common.{◌≡◌, ℕ, ◌+◌, ◌<◌, ◌/◌, ◌%◌, suc, zero, Bool, true, false, cond, ◌==◌, List, [], ◌∷◌, ◌++◌, Some, length, take, drop, refl, ap, ◌∙◌, arith, append_assoc, length-append, codes, decimal, digit_glyph, digits_onto, list_all, take-append_seam, drop-append_seam, Token, first_is, JoinsAll, IsToken, is_token, is_quiet, begins_as, match_in, Kind, rule_match, CText, Effect, EmitAt, End, Closed, Reading, after_lexeme, next_match, lex, InPlainC, IsReadAs, ReadsAlone, doubled, significant, token_of, literal_token, spelling_of, is_hash, same_Some, and_from, nat_tests}
 use Rattle.std.specs.Fmt.{digits}
 use Rattle.cweb_rules.specs.laws.Laws as rules
 use Rattle.cweb_rules.specs.Matches as kind
@@ -10,8 +10,7 @@ use Rattle.cweb_scan.specs.laws.Laws.{continues_token}
 use Rattle.cweb_scan.proofs.PlainReadings.{token_yields, line_end_yields, comment_yields}
 
 in_plain_c : (r : Reading) (t : List ℕ) → InPlainC r.state → next_match r.state t ≡ match_in CText false t
-in_plain_c r t h =
-    ap (λ c. match_in c (names_include r.state) t) h.in_c ∙ ap (λ o. match_in CText (some_include o) t) h.no_directive
+in_plain_c r t h = grind arith
 
 run_step : (r : Reading) (b : ℕ) (x : List ℕ) (k : Kind) (n : ℕ) → InPlainC r.state → match_in CText false (b ∷ x)
     ≡ rule_match k n → 0 < n

@@ -79,8 +79,7 @@ blanks_turn n u s line some h is size = grind (arith, turn)
 
 pub word_turn : (n : ℕ) (u : List ℕ) (s new : ScanState) → IsLine u → 1 ≤ length u → s.context ≡ CText → rule.Identifier
     ≡ rule_at s u → n ≡ prefix_len is_word_byte u → new ≡ emit (Word (take n u)) s → TakesPlain n u s new
-word_turn n u s new line some c_text is size made = turn n u s new rule.Identifier line some c_text is refl
-    (record { size = size; state = made ∙ ap (λ k. emit (Word (take k u)) s) size })
+word_turn n u s new line some c_text is size made = grind (arith, turn)
 
 pub sign_turn : (u : List ℕ) (s new : ScanState) → IsLine u → 1 ≤ length u → IsPlainC s → rule.Punctuator ≡ rule_at s u
     → IsSign u → new ≡ record (emit (Punct (take 1 u)) s) { folded = false } → TakesPlain 1 u s new

@@ -1,5 +1,5 @@
 -- Literals, raw or not, and included names, as one slice of the source.
-use Rattle.cweb_scan.proofs.Common.{ℕ, ◌≡◌, ◌≤◌, ◌+◌, true, false, ◌==◌, List, [], ◌∷◌, ◌++◌, length, take, drop, refl, ap, sym, ◌∙◌, subst, arith, codes, flat_map, bytes_eq, append_assoc, append-nil, length-append, take-append-drop, flat_map-append, fold-append, Place, Look, Goes, at_line_ends, Reach, reach, body, unescaped, unit_bytes, Cut, Open, Reached, reached, emit_literal, on, ScanState, AppliesOver, ended_as, PassesUnits, quoted_as, ends-append, and_parts, if◌then◌else◌, eqb-true, length-take-le, DoubleAtInString, report, each_line_end, move_to, passed}
+use Rattle.cweb_scan.proofs.Common.{ℕ, ◌≡◌, ◌≤◌, ◌+◌, true, false, ◌==◌, List, [], ◌∷◌, ◌++◌, length, take, drop, refl, ap, sym, ◌∙◌, subst, arith, codes, flat_map, bytes_eq, append_assoc, append-nil, length-append, take-append-drop, flat_map-append, fold-append, Place, Look, Goes, at_line_ends, Reach, reach, body, unescaped, unit_bytes, Cut, Open, Reached, reached, emit_literal, on, ScanState, AppliesOver, ended_as, PassesUnits, quoted_as, ends-append, and_parts, if◌then◌else◌, length-take-le, DoubleAtInString, report, each_line_end, move_to, passed}
 use Rattle.cweb_rules.specs.declared.items.Item.{Item}
 use Rattle.cweb_rules.specs.inner.LineItems.{look_of}
 use Rattle.cweb_rules.proofs.UnitNewlines.{quoted-bytes}
@@ -73,8 +73,7 @@ moved_same (p ∷ ps) s = moved_same ps (move_to p s)
 
 no_line_end : (u : List ℕ) → bytes_eq u (codes "@") ≡ true → at_line_ends 1 u ≡ 0
 no_line_end [] h = refl
-no_line_end (b ∷ []) h =
-    let same = eqb-true b 64 (and_parts (b == 64) true h).0 in ap (λ n. at_line_ends 1 (n ∷ [])) same
+no_line_end (b ∷ []) h = grind (arith, and_parts)
 no_line_end (b ∷ c ∷ t) h = let wrong = (and_parts (b == 64) false h).1 in cc
 
 -- An `@` that isn't doubled.

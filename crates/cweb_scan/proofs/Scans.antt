@@ -1,5 +1,5 @@
 -- Scanning the lines of a merger.
-use Rattle.cweb_scan.proofs.Common.{◌≡◌, ◌≤◌, ◌<◌, ℕ, ◌+◌, Bool, true, List, [], ◌∷◌, ◌++◌, length, ap, sym, ◌∙◌, subst, arith, nat_lt, ltb-true, lt-ltb, append-nil, append_assoc, All-push, All-weaker, Place, Line, HasNoNewline, Event, KeepsReported, SoFar, Stopped, StopsFor, emitted_lines, EmitsLine, Grows, StopsThere, LINES, BYTES, Stop, ReadFault, LineTooLong, TooMuchText, Memory, Token, Mark, all_tokens, IsLine, ScanFault, Reading, ReaderModel, read_after, new_reader, IsBounded, MarkPasses, web_size, Scanned, read_lines, scanned, scanned_of, AreLinesBelow, IsScanBelow, IsMarkBelow, HasTaken, ScansWithinLimits, Scans, StopsAfter, ScanEndsEarly}
+use Rattle.cweb_scan.proofs.Common.{◌≡◌, ◌≤◌, ◌<◌, ℕ, ◌+◌, Bool, true, List, [], ◌∷◌, ◌++◌, length, ap, sym, ◌∙◌, subst, arith, nat_lt, ltb-true, lt-ltb, append-nil, append_assoc, All-push, All-weaker, Place, Line, HasNoNewline, Event, KeepsReported, SoFar, Stopped, StopsFor, emitted_lines, EmitsLine, Grows, StopsThere, LINES, BYTES, Stop, ReadFault, LineTooLong, TooMuchText, Memory, Token, Mark, IsLine, Reading, ReaderModel, read_after, new_reader, MarkPasses, web_size, Scanned, read_lines, scanned, scanned_of, AreLinesBelow, IsScanBelow, IsMarkBelow, HasTaken, ScansWithinLimits, Scans, StopsAfter, ScanEndsEarly}
 use Rattle.cweb_files.specs.Shelves.{Observed, ShelfContents, ShelfModel}
 use Rattle.cweb_lines.specs.surface.MergeProgress.{EmitsLines}
 use Rattle.cweb_lines.proofs.ReportsOnlyGrow.{reported_then}
@@ -22,8 +22,7 @@ web_size-append [] b = omega arith
 web_size-append (line ∷ a) b = omega (arith, web_size-append a b)
 
 pub wider : (files more : ℕ) (lines : List Line) → files ≤ more → AreLinesBelow files lines → AreLinesBelow more lines
-wider files more lines h below = All-weaker (λ (line : Line). line.place.file.0 < files)
-    (λ line. line.place.file.0 < more) (λ line k. omega (arith, h, k)) lines below
+wider files more lines h below = grind arith
 
 -- One more line.
 pub emitted_line_taken : {R : Type 0} (shelf : ShelfModel R) (old so new : SoFar)
@@ -35,13 +34,11 @@ pub emitted_line_taken : {R : Type 0} (shelf : ShelfModel R) (old so new : SoFar
     → HasTaken shelf old new all later next
 emitted_line_taken shelf old so new all now later pending next line taken emitted names reads yields = record {
   lines = taken.lines ++ line ∷ [];
-  read_is = λ more.
-      reads more ∙ taken.read_is (line ∷ more) ∙ ap read_lines (sym (append_assoc taken.lines (line ∷ []) more));
+  read_is = grind (arith, append_assoc);
   below = All-push (λ (line : Line). line.place.file.0 < length new.names) taken.lines line
       (wider (length so.names) (length new.names) taken.lines names taken.below) emitted.known;
   few = omega (arith, web_size-append taken.lines (line ∷ []), taken.few, emitted.lines, emitted.bytes_are);
-  yields = λ seen it. yields_both taken.lines (line ∷ []) old so new (all seen) (now seen) (later seen)
-      (taken.yields seen it) (yields seen it);
+  yields = grind (arith, yields_both);
 }
 
 -- If all lines are in the first files, so are all Marks and faults.
@@ -58,10 +55,8 @@ scanned-below files lines below =
     (λ l. among files l.place ≡ true) (λ l h. lt-ltb l.place.file.0 files h) lines below in
     let pass = scanned-pass (among files) lines known in
     record {
-      marks = All-weaker (MarkPasses (among files)) (IsMarkBelow files)
-          (mark_below files) (all_tokens (scanned lines).store.parts) pass.marks;
-      faults = All-weaker (λ (f : ScanFault). among files f.place ≡ true) (λ f. f.place.file.0 < files)
-          (λ f h. ltb-true f.place.file.0 files h) (scanned lines).faults pass.faults;
+      marks = grind (arith, mark_below);
+      faults = grind arith;
     }
 
 -- The result of all lines that were taken.
@@ -93,10 +88,7 @@ all_scanned old so new all now later lines pending s reads few yields is last no
     record {
       made = same ∙ ap scanned (sym here);
       yields = yields_all (lines ++ []) old new all later whole none;
-      small = subst (λ (s : Scanned). IsBounded s.store (new.count.bytes + new.count.lines)) (sym same) (record {
-        tokens = omega (arith, size.tokens, few, last.lines_are, last.bytes_are);
-        bytes = omega (arith, size.bytes, few, last.lines_are, last.bytes_are);
-      });
+      small = grind arith;
     }
 
 -- The merger stopped.
@@ -121,8 +113,7 @@ ends_early stop old so new all now lines yields there = record {
 -- An allocation failed.
 pub refused : (old so halted : SoFar) (all now : List Event) (lines : List Line)
     → halted ≡ so → EmitsLines lines old so all now → ScanEndsEarly Memory old halted all
-refused old so halted all now lines is yields =
-    record { why = tt; reported = tells_same old so halted all is (tells_some lines old so all now yields) }
+refused old so halted all now lines is yields = grind (arith, tells_same, tells_some)
 
 -- The events so far only grow, also when the merger is halted afterwards.
 pub grows_then : (a b c : SoFar) → KeepsReported a b → Grows b c → Grows a c

@@ -1,5 +1,5 @@
 -- The code's directive state follows the directive of the tokens.
-use Rattle.cweb_scan.proofs.Common.{◌≡◌, Bool, true, false, ◌&&◌, not, List, [], ◌∷◌, ◌++◌, Option, Some, None, refl, ap, sym, ◌∙◌, codes, bytes_eq, if◌then◌else◌, Token, Word, Punct, Blank, Newline, Stage, is_some, arith}
+use Rattle.cweb_scan.proofs.Common.{◌≡◌, Bool, true, false, not, List, [], ◌∷◌, ◌++◌, Option, Some, None, refl, ap, sym, ◌∙◌, codes, bytes_eq, if◌then◌else◌, Token, Word, Punct, Blank, Newline, Stage, is_some, arith}
 use Rattle.std.proofs.lemmas.List.Sums.{fold-append}
 use Rattle.cweb_scan.specs.declared.directive.Stage.TheVariants.{Outside, Bare, Include, Further}
 use Rattle.cweb_scan.specs.DirectiveTokens.{is_bare_include, is_punct, ends_line, directive_tokens, directive_after, directive_of, some_include, is_line_continued}
@@ -57,8 +57,7 @@ choice false ts t = stage_of_some ts t
 
 stage-seen : (o : Option (List Token)) (l : Option Token) (t : Token)
     → stage_of (directive_tokens o l t) ≡ next_stage (record { stage = stage_of o; last = maybe_last_kind l }) t
-stage-seen None l t = stage_when (is_punct (codes "#") (Some t) && ends_line l)
-    ∙ ap (λ v. if is_punct (codes "#") (Some t) && v then Bare else Outside) (sym (ends-seen l))
+stage-seen None l t = grind (arith, stage_when, ends-seen)
 stage-seen (Some ts) l t = grind (arith, choice, ends-seen, over-seen, not_outside)
 
 step-seen : (d : spec.Directive) (t : Token) → directive_model (directive_after d t) ≡ after_token (directive_model d) t

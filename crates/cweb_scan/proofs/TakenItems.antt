@@ -1,5 +1,5 @@
 -- The state after a lexeme that ends in its line, whatever lines follow.
-use Rattle.cweb_scan.proofs.Common.{◌≡◌, ℕ, false, List, [], ◌∷◌, ◌++◌, take, drop, refl, ap, sym, ◌∙◌, Place, Reading, on, emit_literal, item, after_lexeme, unescaped, Kind, Skipped, LineEnd, Comment, Quoted, RuleMatch, AtLineEnd, opens_in, next_match, lex, fold, take-append-le, drop-append-le, names_include, match_in, ScanState, move_to, arith}
+use Rattle.cweb_scan.proofs.Common.{◌≡◌, ℕ, false, List, [], ◌∷◌, ◌++◌, take, drop, refl, ap, ◌∙◌, Place, Reading, item, after_lexeme, Kind, Skipped, LineEnd, Comment, Quoted, RuleMatch, AtLineEnd, opens_in, next_match, lex, fold, take-append-le, drop-append-le, names_include, match_in, ScanState, arith}
 use Rattle.cweb_rules.specs.Matches.{Occurrence}
 use Rattle.cweb_rules.proofs.LineMatches.{prefix_line}
 use Rattle.cweb_rules.proofs.InLines.{InLine}
@@ -10,13 +10,11 @@ use Rattle.cweb_scan.proofs.FirstLexeme.{first, pieces_first}
 
 pub item_line : (k : Kind) (bytes : List ℕ) (s : ScanState) (later : List Place) → InLine k bytes
     → item k bytes (reading s later) ≡ reading (item k bytes (reading s [])).state later
-item_line Skipped bytes s later h = none-line move_to bytes (reading s later) h
-    ∙ ap (λ (r : Reading). reading r.state later) (sym (none-line move_to bytes (reading s []) h))
+item_line Skipped bytes s later h = grind (arith, none-line)
 item_line (Occurrence is_file us how opens) bytes s later h = grind (arith, none-line)
 item_line LineEnd bytes s later h = absurd h
 item_line (Comment how) bytes s later h = grind (arith, none-line)
-item_line (Quoted us how) bytes s later h = ap (on (emit_literal (unescaped us) how s.here)) (units_line s later us h)
-    ∙ ap (λ (r : Reading). reading (emit_literal (unescaped us) how s.here r.state) later) (sym (units_line s [] us h))
+item_line (Quoted us how) bytes s later h = grind (arith, units_line)
 item_line _ bytes s later h = refl
 
 abbrev with_prefix : Reading → List ℕ → RuleMatch → Reading

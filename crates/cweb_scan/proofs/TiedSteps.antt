@@ -1,5 +1,5 @@
 -- The invariant of the directive's state, and trailing layout.
-use Rattle.cweb_scan.proofs.Common.{◌≡◌, true, false, List, [], ◌∷◌, ◌++◌, Option, Some, None, refl, ap, ◌∙◌, take, drop, option_map, if◌then◌else◌, Token, Part, part_with_token, Context, in_open_part, is_macro, is_layout, before_last, without_last, without_layout, Directive, IsTied, arith}
+use Rattle.cweb_scan.proofs.Common.{◌≡◌, true, false, List, [], ◌∷◌, ◌++◌, Option, Some, None, refl, ap, ◌∙◌, option_map, if◌then◌else◌, Token, Part, part_with_token, Context, in_open_part, is_macro, is_layout, before_last, without_last, without_layout, Directive, IsTied, arith}
 use Rattle.cweb_scan.specs.inner.ScanParts.{after_token, after_tokens}
 use Rattle.cweb_scan.proofs.Steps.{directive-pushed}
 
@@ -39,8 +39,7 @@ tied_emitted d l c None t tied h = let wrong : false ≡ true = tied.part_is_ope
 tied_emitted d l c (Some p) t tied h = grind (arith, directive-pushed, solid_emitted)
 
 dropped_tokens : (p : Part) → is_macro p.kind ≡ false → (without_layout p).tokens ≡ without_last is_layout p.tokens
-dropped_tokens p h =
-    ap (λ v. let n = (if v then 2 else 0) in take n p.tokens ++ without_last is_layout (drop n p.tokens)) h
+dropped_tokens p h = grind arith
 
 pub tied_dropped : (d l : Directive) (c : Context) (o : Option Part)
     → IsTied d l c o → IsTied l l c (option_map without_layout o)

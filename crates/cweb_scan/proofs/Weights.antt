@@ -41,14 +41,12 @@ weighs = record {
   within = λ n w t b x h. omega (arith, x, h);
   knowing = λ f. f (holds_any _ _ _);
   advances = λ r. moved-weight r.state r.later;
-  yields = λ t r h.
-      omega (arith, token_pushed t r.state.contents.parts, part_count_pushed t r.state.contents.parts);
+  yields = grind (arith, token_pushed, part_count_pushed);
   faults = λ k p r h. omega arith;
   enters = λ c r h. omega arith;
   pays = λ t h x. omega (arith, x);
   opens = λ kind r. omega (arith, token_opened kind r.state.contents.parts, part_opened kind r.state.contents.parts);
-  closes = λ r.
-      omega (arith, token_count_closed r.state.contents.parts, part_count_closed r.state.contents.parts);
+  closes = grind (arith, token_count_closed, part_count_closed);
   drops = λ r. omega (arith, token_count_dropped r.state.contents.parts, part_count_dropped r.state.contents.parts);
   occurs = λ o r. omega (arith, length-append r.state.contents.occurrences (o ∷ []));
   replaces = λ x r. omega arith;

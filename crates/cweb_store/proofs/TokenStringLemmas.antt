@@ -137,8 +137,7 @@ truncate-are kept places rs n k all cut same =
     let kept_strings : filter has_string us ≡ filter has_string ts =
     ap (filter has_string) (truncate-tokens kept.strings places rs n k cut) ∙ same in
     record {
-      numbers = subst (AreRecords (length kept.strings) 0 (take n rs)) (sym (length-take-le k places cut.within))
-          cut.prefix;
+      numbers = grind (arith, length-take-le);
       words = λ q. all.words q ∙ ap (list_any (bytes_eq q)) (sym (same-words us ts kept_strings));
       bytes = all.bytes ∙ sym (same-bytes us ts kept_strings);
       few = omega (arith, all.few, ap length kept_strings);

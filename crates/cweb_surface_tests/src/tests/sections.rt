@@ -1,7 +1,7 @@
 // A client of cweb_scan and cweb_store.
 use super::wanted::{holds, same_bytes};
 use cweb_lines::{MemoryShelf, Merger, Shelf, Stop};
-use cweb_scan::scan;
+use cweb_scan::{Scanned, scan};
 use cweb_store::{NameId, Store};
 use std::alloc::{AllocError, Global};
 
@@ -20,6 +20,10 @@ fn outline_of<S: Shelf>(
         return Err(merger.halt());
     }
     let scanned = scan(alloc, merger, shelf)?;
+    outline_of_scanned(alloc, &scanned)
+}
+
+fn outline_of_scanned(alloc: Global, scanned: &Scanned) -> Result<(u32, Vec<u8>), Stop> {
     Ok((scanned.sections, names(alloc, &scanned.store)?))
 }
 

@@ -1,5 +1,5 @@
 use Rattle.cweb_input.proofs.Errors.{same_error}
-use Rattle.cweb_lines.proofs.Common.{rules, ◌≡◌, Some, [], Ok, Err, Line, refl, sym, ◌∙◌, Writes, BuffersLines, HasWritten, events_to_come, so_far_of, to_come, so_far}
+use Rattle.cweb_lines.proofs.Common.{rules, ◌≡◌, Some, [], Ok, Err, Line, refl, sym, ◌∙◌, Writes, BuffersLines, HasWritten, events_to_come, so_far_of, to_come, so_far, arith}
 use Rattle.cweb_lines.proofs.ReportsOnlyGrow.{grows_reported, reported_same}
 use Rattle.cweb_lines.proofs.BufferedWrites.{failed_next, failed_same, held, held_on, fails_prefix, fails_among, printed_all, printed_before, printed_none, printed_then, written_on}
 use Rattle.cweb_files.specs.Shelves.{ShelfContents}
@@ -87,8 +87,7 @@ returns-in_err-next_line g c =
           };
       fault = search rules;
       reads = λ before. reads.shelf;
-      blames = λ before. blames_own c.in_err-next_line.field-0.0 _ _ _ _ blames.reading next.leaves.kept
-          next.leaves.named (failed_same c.lines.invariant.printed);
+      blames = grind (arith, blames_own, failed_same, c.lines.invariant.printed);
       known = stays_known (Err c.in_err-next_line.field-0.0) reads;
       again = none_before _ c.lines.invariant.before;
     })
@@ -163,8 +162,7 @@ returns-in-Err-write_all g c =
       reads = λ before. (λ file. [], q.shelf.1);
       blames = λ before. blames_write _ _ _ _ (passes.stopped ∙ c.in_ok-next_line.ensures.leaves.running)
           (failed_next c.lines.invariant.printed err);
-      known = λ seen it known.
-          let stays = q.readers seen it known in record { readers = stays.0; blamed = λ before. stays.1 };
+      known = grind arith;
       again = none_before _ c.lines.invariant.before;
     }
 

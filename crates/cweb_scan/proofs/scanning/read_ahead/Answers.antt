@@ -1,4 +1,4 @@
-use Rattle.cweb_scan.proofs.Common.{◌≡◌, ◌∷◌, ◌++◌, [], List, ℕ, ap, length, subst, arith, length-append, Place, Line, ReaderModel, read_after}
+use Rattle.cweb_scan.proofs.Common.{◌≡◌, ◌∷◌, ◌++◌, [], List, ℕ, ap, length, arith, length-append, Place, Line, ReaderModel, read_after}
 use Rattle.cweb_scan.proofs.Aheads.{read_more, read_nothing}
 use Rattle.cweb_scan.proofs.scanning.read_ahead.Goals as goal
 
@@ -6,8 +6,7 @@ use Rattle.cweb_scan.proofs.scanning.read_ahead.Goals as goal
 read_as : (old new : ReaderModel) (p : Place) (borrowed bytes : List ℕ) → borrowed ≡ bytes
     → ((more : List Line) → read_after new more ≡ read_after old (record { bytes = borrowed; place = p } ∷ more))
     → (more : List Line) → read_after new more ≡ read_after old (record { bytes = bytes; place = p } ∷ more)
-read_as old new p borrowed bytes is reads more = subst
-    (λ (b : List ℕ). read_after new more ≡ read_after old (record { bytes = b; place = p } ∷ more)) is (reads more)
+read_as old new p borrowed bytes is reads more = grind arith
 
 pub lines-init : goal.lines-init
 lines-init g c =

@@ -1,7 +1,6 @@
 use Rattle.cweb_input.proofs.Errors.{same_error}
-use Rattle.cweb_input.proofs.Common.{[], None, ap, ◌-◌, rules, Some, ◌∙◌, arith}
+use Rattle.cweb_input.proofs.Common.{[], ap, rules, Some, ◌∙◌, arith}
 use Rattle.std.proofs.Common.{get_or-set_other}
-use Rattle.std.specs.Prelude.{Ok, slice_index_or}
 use Rattle.cweb_input.proofs.SourceStacks.{takes_same}
 use Rattle.cweb_input.proofs.open_source.stack.take_above.Goals as goal
 
@@ -50,14 +49,9 @@ texts-preserved g c =
       numbers = takes.order.numbers;
       deep = takes.order.deep;
       files = omega (arith, takes.order.files, loop.files);
-      below = λ left n le rest. c.in_ok-at.ensures.closes.below c.args.low c.texts-test.true left n le rest
-          ∙ loop.below left n le rest;
-      kept = λ place below. (rw c.in_default.is at c.in_ok-at.ensures.closes.numbers) place below
-          ∙ loop.kept place (omega (arith, depth, below));
-      same = λ place below. ap (λ texts. slice_index_or texts place None)
-          (c.in_ok-at.ensures.closes.closed (ap Ok c.in_default.is))
-          ∙ get_or-set_other c.texts.stack.texts (c.texts.stack.depth - 1) place None None (omega (arith, depth, below))
-          ∙ loop.same place (omega (arith, depth, below));
+      below = grind (arith, c.in_ok-at.ensures.closes.below, c.texts-test.true);
+      kept = grind (arith, c.in_default.is, c.in_ok-at.ensures.closes.numbers);
+      same = grind (arith, get_or-set_other, c.in_ok-at.ensures.closes.closed, c.in_default.is);
       counted = (λ i. record { lines = counted.0 i; bytes = counted.1 i }) ∙ loop.counted;
       things = λ seen is rest.
           let top = rw c.in_default.is at (c.in_ok-at.ensures.taken seen (ap (λ m. m.contents) loop.unread ∙ is)) in

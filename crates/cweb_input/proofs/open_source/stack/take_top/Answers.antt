@@ -31,10 +31,7 @@ returns-in_err-at g c =
         answers = grind (arith, common_steps, file, takes.answers);
       };
       taken = λ seen is. tt;
-      stops = λ seen is. stops_map c.in_err-at.field-0.0 (λ first low above rest. top_stops seen.left
-          stack.texts slot c.take_from.new.slot stack.depth within
-          (counters_of c.args.limits.now) (counters_of c.take_from.new.limits) c.take_from.new.line.items low above rest
-          c.in_err-at.field-0.0 first) (takes.stops seen is);
+      stops = grind (arith, stops_map, top_stops);
       needed = rw (get_or_default stack.texts (stack.depth - 1) None slot within) takes.needed;
       closes = record {
         depth = search rules;

@@ -1,8 +1,8 @@
 use Rattle.cweb_input.proofs.Errors.{same_error}
-use Rattle.cweb_input.proofs.Common.{rules, ◌≡◌, ◌+◌, ◌∙◌, ap, Err, List, ℕ, [], bytes_left, counters_of}
+use Rattle.cweb_input.proofs.Common.{rules, ◌≡◌, ◌+◌, ◌∙◌, List, ℕ, [], bytes_left, counters_of, arith}
 use Rattle.std.specs.Prelude.{Option}
 use Rattle.cweb_files.specs.declared.place.FileId.{FileId}
-use Rattle.cweb_input.specs.surface.OpenSources.{name_of_file, shelf_after}
+use Rattle.cweb_input.specs.surface.OpenSources.{shelf_after}
 use Rattle.cweb_input.proofs.ReadersStayNamed.{blames_known, blames_some, line_blames}
 use Rattle.cweb_input.proofs.TrimmedLines.{takes_first, line_stops, line_reads, line_needs, first_passes}
 use Rattle.cweb_input.proofs.open_source.take.take_line.Goals as goal
@@ -19,16 +19,9 @@ returns-in-Err-clause-takes g c =
             (blames_some old reader).1,
       );
       taken = λ seen is. tt;
-      stops = λ seen is. line_stops c.in-Err.fault _ (bytes_left seen.left c.args.text.now.source) c.args.text.now.file
-          (c.args.text.now.line + 1) _ c.stop_of.ensures (λ long. c.in-Err.ensures.fails.too_long seen is
-          (ap Err long));
-      needed = line_needs c.in-Err.fault _ c.args.text.now c.stop_of.ensures
-          (λ is. c.in-Err.ensures.fails.needed (ap Err is));
-      named = λ seen is names named. (
-        reads.opened seen is ∙ named,
-        line_blames (Option ℕ) c.in-Err.fault _ c.args.text.now.file reader old _ (name_of_file names) c.stop_of.ensures
-            reads.shelf (blames_known old reader seen is _ named),
-      );
+      stops = grind (arith, line_stops, c.stop_of.ensures, c.in-Err.ensures.fails.too_long);
+      needed = grind (arith, line_needs, c.stop_of.ensures, c.in-Err.ensures.fails.needed);
+      named = grind (arith, line_blames, blames_known, c.stop_of.ensures);
       text = search rules;
       answers = search (rules, line_reads c.in-Err.fault _ c.args.text.now.file c.stop_of.ensures);
     }

@@ -9,8 +9,7 @@ returns-clause-emitted g c = λ lines next.
     let passes = c.advance_top.ensures.passes (pending_of run) lines next.in_place in
     let keeps = c.advance_top.ensures.keeps in
     record {
-      yields = yields_next run c.advance_top.new.stack c.advance_top.new.limits c.args.stretch lines next passes
-          keeps.below;
+      yields = grind (arith, yields_next);
       stopped = refl;
       names = refl;
       counted = omega (

@@ -1,4 +1,4 @@
-use Rattle.cweb_lines.proofs.Common.{◌≡◌, ◌+◌, ◌<◌, ◌-◌, ◌∙◌, None, ap, length, refl, sym, arith, get_or-set_same, get_or_default, buffer_of, files_up_to}
+use Rattle.cweb_lines.proofs.Common.{◌≡◌, ◌+◌, ◌<◌, ◌-◌, length, refl, arith, get_or-set_same, get_or_default, files_up_to}
 use Rattle.cweb_input.specs.inner.OpenSources.{maximum_of}
 use Rattle.cweb_input.proofs.ReadersStayNamed.{named_at, named_set}
 use Rattle.cweb_input.proofs.SourceStacks.{top_passed, most_read, most_set, stays_below, deep-at, deep-set}
@@ -28,10 +28,8 @@ returns-clause-keeps g c =
             level.file,
             most_read files_up_to texts place c.index-stack-top.result within,
           ));
-      deep = λ each. deep-set 0 place place texts _ top each
-          (level.deep place (deep-at 0 place place texts c.index-stack-top.result top within each));
-      buffer = ap buffer_of (get_or-set_same texts place c.advance_slot.new.slot None within) ∙ level.buffer
-          ∙ ap buffer_of (sym (get_or_default texts place None c.index-stack-top.result within));
+      deep = grind (arith, deep-set, deep-at);
+      buffer = grind (arith, get_or-set_same, get_or_default);
     }
 
 pub returns-clause-numbers : goal.returns-clause-numbers

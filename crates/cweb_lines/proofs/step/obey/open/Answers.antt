@@ -1,4 +1,4 @@
-use Rattle.cweb_lines.proofs.Common.{◌≡◌, ◌+◌, ◌∷◌, [], ℕ, List, sym, arith, ap, ◌∙◌, length-append, string_bytes, ◌++◌, subst, get_or, get_or_push, opened_file_names, AreReadersNamed, IsReaderNamed}
+use Rattle.cweb_lines.proofs.Common.{◌≡◌, ◌∷◌, [], ℕ, List, sym, arith, ap, ◌∙◌, length-append, string_bytes, ◌++◌, subst, get_or, get_or_push, opened_file_names, AreReadersNamed, IsReaderNamed}
 use Rattle.cweb_input.proofs.ReadersStayNamed.{change_more, named_more, named_set}
 use Rattle.cweb_input.proofs.SourceStacks.{most_set}
 use Rattle.cweb_lines.proofs.step.obey.open.Goals as goal
@@ -19,8 +19,7 @@ returns-clause-readers g c = λ opened_as opened known.
     let others = subst (λ (ns : List (List ℕ)). AreReadersNamed opened_as ns run.stack.texts) (sym names)
     (named_more opened_as (opened_file_names run.names) more run.stack.texts run.open_known known.texts) in
     record {
-      texts = rw c.push-2.ensures.texts
-          (named_set opened_as (opened_file_names c.push.new.self) run.stack.texts run.stack.depth _ others top);
+      texts = grind (arith, named_set, c.push-2.ensures.texts);
       change = subst (λ (ns : List (List ℕ)). IsReaderNamed opened_as ns run.change) (sym names)
           (change_more opened_as (opened_file_names run.names) more run.change run.change_known known.change);
     }

@@ -1,4 +1,4 @@
-use Rattle.cweb_scan.proofs.Common.{List, ℕ, ◌≡◌, ◌++◌, ◌-◌, false, ap, sym, ◌∙◌, subst, arith, length, opens_in, Place, IsPending, ReaderModel, BeginsLine, next_match, pending_text, with_line}
+use Rattle.cweb_scan.proofs.Common.{List, ℕ, ◌≡◌, ◌-◌, false, ap, sym, ◌∙◌, subst, arith, length, opens_in, Place, IsPending, ReaderModel, BeginsLine, next_match, with_line}
 use Rattle.cweb_scan.proofs.FirstMatchTaken.{between}
 use Rattle.cweb_scan.proofs.PendingItems.{Holds, with_line-length, pending_now, pending_ends}
 use Rattle.cweb_scan.proofs.PendingKinds.{EndsWith, stays_with, ends_with, can_take, applies_to, pending_room}
@@ -7,22 +7,18 @@ use Rattle.cweb_scan.proofs.reader.Reader.go_on.Goals.{In_ok-push-2}
 
 now : (c : In_ok-push-2) → Holds c.self.inside.item c.self.inside.scanner c.self.inside.begun
     c.self.inside.pending.items c.self.inside.places.items c.args.self.now
-now c = pending_now c.self.inside.item c.self.inside.scanner c.self.inside.begun c.self.inside.pending.items
-    c.self.inside.places.items c.args.self.now c.self.view_is c.requires.pending c.self.invariant
+now c = grind (arith, pending_now)
 
 text : (c : In_ok-push-2) → c.extend_from_slice.new.self.items ≡ with_line c.self.inside.pending.items c.args.line.now
-text c = c.in_ok-extend_from_slice.ensures.items
-    ∙ ap (λ (v : List ℕ). v ++ c.args.line.now) c.in_ok-push.ensures.items
+text c = grind arith
 
 opens : (c : In_ok-push-2) → opens_in c.self.inside.scanner.context
     (with_line c.self.inside.pending.items c.args.line.now) ≡ c.in_ok-stays.stays
-opens c = ap (λ (h : ReaderModel). opens_in h.state.context (with_line (pending_text h.item) c.args.line.now)) (now
-    c).view ∙ sym c.in_ok-stays.ensures
+opens c = grind (arith, now)
 
 ends : (c : In_ok-push-2) → c.in_ok-stays.stays ≡ false → EndsWith c.self.inside.item c.self.inside.scanner
     c.self.inside.pending.items c.args.line.now c.self.inside.places.items c.args.place
-ends c ended = ends_with c.self.inside.item c.self.inside.scanner c.self.inside.pending.items c.args.line.now
-    c.self.inside.places.items c.args.place (now c).pending (now c).source c.requires.room.clean (opens c ∙ ended)
+ends c ended = grind (arith, ends_with, now, opens)
 
 pub invariant_of-self-then-stays : goal.invariant_of-self-then-stays
 invariant_of-self-then-stays c k =

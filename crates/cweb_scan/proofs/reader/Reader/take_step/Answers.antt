@@ -1,4 +1,4 @@
-use Rattle.cweb_scan.proofs.Common.{ℕ, List, length, ap, sym, ◌∙◌, subst, eqb-true, IsLine, IsLine-drop, ReaderModel}
+use Rattle.cweb_scan.proofs.Common.{ℕ, List, length, ap, sym, ◌∙◌, subst, eqb-true, IsLine, IsLine-drop, arith}
 use Rattle.cweb_scan.proofs.PlainLexemes.{piece_within}
 use Rattle.cweb_scan.proofs.StepAfterPlain.{plain_all, plain_taken, plain_room, plain_then}
 use Rattle.cweb_scan.proofs.reader.Reader.take_step.Goals as goal
@@ -36,8 +36,7 @@ take_between-requires c =
     let n = c.in_ok-plain.plain in
     let t = plain_taken n u h _ c.take_plain.new.self c.self.view_is c.requires.between c.in_ok-plain.ensures in
     record {
-      between = ap (λ (k : ReaderModel). k.item) c.self.view_is
-          ∙ c.requires.between;
+      between = grind (arith, c.requires.between);
       context = tt;
       room = plain_room n u h _ t c.requires.room;
     }

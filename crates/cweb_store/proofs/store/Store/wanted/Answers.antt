@@ -1,4 +1,4 @@
-use Rattle.cweb_store.proofs.Common.{◌≡◌, ◌≤◌, List, length, sym, subst, ◌∙◌, ap, arith, All, all_tokens, tokens_at, length-map, length-filter, count_by-le-length, ranges_from, is_wanted, wanted_in}
+use Rattle.cweb_store.proofs.Common.{◌≡◌, ◌≤◌, List, sym, subst, ◌∙◌, ap, arith, All, all_tokens, tokens_at, length-map, length-filter, count_by-le-length, ranges_from, is_wanted, wanted_in}
 use Rattle.cweb_names.specs.Names as spec
 use Rattle.cweb_store.specs.declared.parts.Part.{Part}
 use Rattle.cweb_store.proofs.PartLemmas.{part-ranges, tokens_at-numbers, numbers-within, numbers-ordered}
@@ -20,8 +20,7 @@ returns-clause-ranges c =
       numbers = numbers;
       text = ap (tokens_at (all_tokens ps)) numbers ∙ tokens_at-numbers test ps;
       ordered = subst (λ (xs : List Part). All (λ p. p.first ≤ p.after) xs) (sym numbers) (numbers-ordered test ps);
-      within = subst (λ (xs : List Part). All (λ p. p.after ≤ length (all_tokens ps)) xs) (sym numbers)
-          (numbers-within test ps);
+      within = grind (arith, numbers-within);
     }
 
 pub returns-clause-few : goal.returns-clause-few

@@ -14,14 +14,7 @@ flag_uses-requires-clause-within c = grind (arith, Follow-at)
 
 pub loop-range-preserved : goal.loop-range-preserved
 loop-range-preserved c = record {
-  size = elim c.if-not-is_macro.branch [
-    | then-not-is_macro w ↦
-        let size = w.flag_uses.ensures.size ∙ ap length w.deref_mut.ensures.value in
-        ap (λ v. length v.items) w.used-is
-        ∙ ap length (with_items_is c.loop-range.used w.flag_uses.new.used (omega (arith, size, c.loop-range.used.ok.0)))
-        ∙ size ∙ c.loop-range.invariant.size
-    | else-not-is_macro w ↦ ap (λ v. length v.items) w.used-is ∙ c.loop-range.invariant.size
-  ];
+  size = grind (arith, then-not-is_macro, with_items_is, else-not-is_macro, c.loop-range.invariant.size);
   same = λ n.
       let rs = c.args.resolutions.now in
       let items = c.deref-range-items.result.now in

@@ -1,4 +1,4 @@
-use Rattle.cweb_store.proofs.Common.{◌||◌, ◌∙◌, refl, ap, sym, arith, flag_of, token_model}
+use Rattle.cweb_store.proofs.Common.{◌||◌, ◌∙◌, refl, ap, sym, arith, flag_of}
 use Rattle.cweb_store.proofs.UseLemmas.{uses-from-next, uses-step}
 use Rattle.cweb_store.proofs.tokens.list.TokenList.flag_uses.Goals as goal
 
@@ -17,12 +17,6 @@ uses-preserved c =
     record {
       within = next.ensures.within;
       size = c.flag_use.ensures.size ∙ c.uses.invariant.size;
-      same = λ n.
-          grind (
-            arith,
-            c.flag_use.ensures.flags n,
-            uses-step c.args.resolutions.now n c.args.self.now.tokens c.args.part c.uses.next next.result
-                (token_model c.token.result) c.token.ensures (omega (arith, c.uses-test.true)) next.ensures,
-            c.uses.invariant.same n,
-          );
+      same =
+          grind (arith, uses-step, c.flag_use.ensures.flags, c.token.ensures, c.uses-test.true, c.uses.invariant.same);
     }
