@@ -1,8 +1,9 @@
 -- What several calls append to a sink.
-use Rattle.std.proofs.Common.{◌≡◌, ◌++◌, ◌+◌, List, [], ℕ, refl, sym, ◌∙◌, ap, subst}
+use Rattle.std.proofs.Common.{arith}
+use Rattle.std.proofs.Common.{◌≡◌, ◌++◌, List, [], ℕ, refl, sym, ◌∙◌, ap, subst}
 use Rattle.std.specs.Prelude.{IsErr, Option, Some, None, Result, Ok, Err}
 use Rattle.std.proofs.lemmas.List.{append-nil, append_assoc}
-use Rattle.cweb_files.specs.Sinks.{FailsWithin, SinkContents, SinkModel, appended, failed_once, failing, with_printed, written}
+use Rattle.cweb_files.specs.Sinks.{FailsWithin, SinkContents, SinkModel, appended, failed_once, written}
 use Rattle.cweb_files.specs.surface.Writes.{Wrote}
 
 -- Consecutive texts.
@@ -27,31 +28,15 @@ written_then a b old first then = then ∙ ap (written b) first ∙ written_on a
 -- A text was written, and a write failed within the next one.
 pub fails_then : (a : List ℕ) {b : List ℕ} {old mid new : SinkModel} → mid ≡ written a old → FailsWithin b mid new
     → FailsWithin (a ++ b) old new
-fails_then a {b} {old} first fails = record {
-  prefix = a ++ fails.prefix;
-  rest = fails.rest;
-  whole = ap (λ (t : List ℕ). a ++ t) fails.whole ∙ sym (append_assoc a fails.prefix fails.rest);
-  is = fails.is ∙ ap (failing (with_printed fails.prefix)) first
-      ∙ (λ i. record { failed = old.failed + 1; contents = appended_on a fails.prefix old.contents i });
-}
+fails_then a {b} {old} first fails = grind (arith, append_assoc, appended_on)
 
 -- More would have been written after a fault.
 pub fails_in : {a : List ℕ} (b : List ℕ) {old new : SinkModel} → FailsWithin a old new → FailsWithin (a ++ b) old new
-fails_in b fails = record {
-  prefix = fails.prefix;
-  rest = fails.rest ++ b;
-  whole = ap (λ (t : List ℕ). t ++ b) fails.whole ∙ append_assoc fails.prefix fails.rest b;
-  is = fails.is;
-}
+fails_in b fails = grind (arith, append_assoc)
 
 -- A write failed at once.
 pub fails_at_once : (text : List ℕ) {old new : SinkModel} → new ≡ failed_once old → FailsWithin text old new
-fails_at_once text {old} is = record {
-  prefix = [];
-  rest = text;
-  whole = refl;
-  is = is ∙ (λ i. record { failed = old.failed + 1; contents = sym (appended_none old.contents) i });
-}
+fails_at_once text {old} is = grind (arith, appended_none)
 
 -- These bytes were written, and then more or a prefix of them.
 pub wrote_then : {B F : Type 0} (first more : List ℕ) (a b c : SinkModel) (r : Result B F)
@@ -63,8 +48,7 @@ wrote_then first more a b c (Err e) one other = fails_then first one other
 pub wrote_until : {B F : Type 0} (text first rest : List ℕ) (a b : SinkModel) (r : Result B F)
     → IsErr r → text ≡ first ++ rest → FailsWithin first a b → Wrote text a b r
 wrote_until text first rest a b (Ok x) is whole fails = absurd (cc)
-wrote_until text first rest a b (Err e) is whole fails =
-    subst (λ (t : List ℕ). FailsWithin t a b) (sym whole) (fails_in rest fails)
+wrote_until text first rest a b (Err e) is whole fails = grind (arith, fails_in)
 
 -- All was written.
 pub wrote_as : {text other : List ℕ} (a : SinkModel) {b : SinkModel} → text ≡ other → b ≡ written text a

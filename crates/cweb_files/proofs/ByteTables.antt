@@ -1,6 +1,6 @@
 -- A table with one entry per byte agrees with a test of bytes.
 use Rattle.std.proofs.lemmas.Bool.{and_parts}
-use Rattle.std.proofs.Common.{◌≡◌, ◌<◌, ℕ, zero, suc, ◌+◌, Bool, true, false, ◌&&◌, not, List, [], ◌∷◌, length, slice_index_or, refl, ap, sym, ◌∙◌, arith}
+use Rattle.std.proofs.Common.{◌≡◌, ◌<◌, ℕ, zero, suc, ◌+◌, Bool, true, false, ◌&&◌, not, List, [], ◌∷◌, length, slice_index_or, refl, sym, arith}
 
 abbrev pub same : Bool → Bool → Bool
 same true b = b
@@ -19,9 +19,7 @@ agrees test k (x ∷ xs) = same x (test k) && agrees test (suc k) xs
 known_from : (test : ℕ → Bool) (xs : List Bool) (k i b : ℕ) → agrees test k xs ≡ true → i < length xs → b ≡ k + i
     → slice_index_or xs i false ≡ test b
 known_from test [] k i b h within e = absurd (omega (arith, within))
-known_from test (x ∷ xs) k zero b h within e =
-    let here : k ≡ b = omega (arith, e) in
-    same_is x (test k) (and_parts (same x (test k)) (agrees test (suc k) xs) h).0 ∙ ap test here
+known_from test (x ∷ xs) k zero b h within e = grind (arith, same_is, and_parts)
 known_from test (x ∷ xs) k (suc i) b h within e =
     known_from test xs (suc k) i b (and_parts (same x (test k)) (agrees test (suc k) xs) h).1
     (omega (arith, within)) (omega (arith, e))

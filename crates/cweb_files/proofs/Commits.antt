@@ -1,5 +1,6 @@
 -- Committing a draft to a `Vec` of files is `put_file` on the model.
-use Rattle.std.proofs.Common.{◌≡◌, ℕ, Bool, true, false, not, cond, List, [], ◌∷◌, ◌++◌, refl, ◌∙◌, ap, map, string_bytes}
+use Rattle.std.proofs.Common.{arith}
+use Rattle.std.proofs.Common.{◌≡◌, ℕ, not, List, [], ◌∷◌, ◌++◌, refl, ◌∙◌, ap, map, string_bytes}
 use Rattle.std.proofs.lemmas.List.{map-append}
 use Rattle.std.specs.Prelude.{filter}
 use Rattle.cweb_files.specs.Files.{File, without, put_file}
@@ -10,15 +11,7 @@ use Rattle.std.specs.Str.{bytes_eq}
 others : (name : List ℕ) (files : List BinFile) → map as_file
     (filter (λ (f : BinFile). not (bytes_eq (string_bytes f.name) name)) files) ≡ without name (map as_file files)
 others name [] = refl
-others name (file ∷ files) = cases (bytes_eq (string_bytes file.name) name) (others name files)
-  where
-    cases : (b : Bool) → map as_file (filter (λ (f : BinFile). not (bytes_eq (string_bytes f.name) name)) files)
-        ≡ without name (map as_file files)
-        → map as_file (cond (not b) (file ∷ filter (λ (f : BinFile). not (bytes_eq (string_bytes f.name) name)) files)
-        (filter (λ (f : BinFile). not (bytes_eq (string_bytes f.name) name)) files))
-        ≡ cond (not b) (as_file file ∷ without name (map as_file files)) (without name (map as_file files))
-    cases true later = later
-    cases false later = ap (λ (fs : List File). as_file file ∷ fs) later
+others name (file ∷ files) = grind (arith, others name files)
 
 pub commits : (files left new : List BinFile) (file : BinFile)
     → left ≡ filter (λ (f : BinFile). not (bytes_eq (string_bytes f.name) (string_bytes file.name))) files

@@ -22,9 +22,7 @@ pub text_in-push : (entries : List Entry) (entry : Entry) (name : List ℕ)
     → contents_in_entries (entries ++ entry ∷ []) name
     ≡ first_of (contents_if_named entry name) (contents_in_entries entries name)
 text_in-push [] entry name = sym (first_none (contents_if_named entry name))
-text_in-push (e ∷ entries) entry name =
-    ap (λ t. first_of t (contents_if_named e name)) (text_in-push entries entry name)
-    ∙ first_assoc (contents_if_named entry name) (contents_in_entries entries name) (contents_if_named e name)
+text_in-push (e ∷ entries) entry name = grind (arith, text_in-push entries entry name, first_assoc)
 
 pub first-if : {A : Type 0} → (b : Bool) (x : A) (y : Option A) → first_of (cond b (Some x) None) y ≡ cond b (Some x) y
 first-if true x y = refl
@@ -33,14 +31,7 @@ first-if false x y = refl
 pub put-texts : (old new : List Entry) (entry : Entry) (name text : List ℕ)
     → new ≡ old ++ entry ∷ [] → string_bytes entry.name ≡ name → entry.text.items ≡ text
     → contents_in_entries new ≡ (λ args. cond (bytes_eq name args) (Some text) (contents_in_entries old args))
-put-texts old new entry name text is named holds = λ i args. (at args) i
-  where
-    at : (args : List ℕ)
-        → contents_in_entries new args ≡ cond (bytes_eq name args) (Some text) (contents_in_entries old args)
-    at args =
-        ap (λ (es : List Entry). contents_in_entries es args) is ∙ text_in-push old entry args
-        ∙ first-if (bytes_eq (string_bytes entry.name) args) entry.text.items (contents_in_entries old args)
-        ∙ (λ i. cond (bytes_eq (named i) args) (Some (holds i)) (contents_in_entries old args))
+put-texts old new entry name text is named holds = grind (arith, text_in-push, first-if)
 
 slice_get-at : (entries : List Entry) (i : ℕ) (e : Entry) → i < length entries
     → e ≡ get_or entries i e → slice_get entries i ≡ Some e

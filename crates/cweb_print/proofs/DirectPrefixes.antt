@@ -29,13 +29,7 @@ passed_more p ts last t l old mid new passed h appended =
       moves = λ done is. ap left_after_tokens (sym (append_assoc done ts (t ∷ []))) ∙ leaves-push (done ++ ts) t
           ∙ ap (λ (left : Left). left_after_token left t) (passed.moves done is)
           ∙ leaves-direct (class_after_edge last) t l h;
-      prints = λ done is.
-          let so_far = passed.prints done is in
-          record {
-            bytes = so_far.bytes ++ more;
-            expected = grind (arith, append_assoc, print-direct);
-            written = grind (arith, append_assoc);
-          };
+      prints = grind (arith, append_assoc, print-direct);
     }
 
 -- Rewrites the new bytes along an equation.

@@ -1,5 +1,5 @@
 -- A run that changed the bins has read everything.
-use Rattle.cweb_tools.proofs.Common.{◌≡◌, ◌≢◌, ◌⊎◌, inl, inr, ℕ, ◌+◌, Bool, false, List, [], ◌∷◌, ◌++◌, ◌∙◌, ap, Some, Stop, ReadFault, LogItem, banner, fault_count, Shown, Devices, FailedReads, SinkModel, Act, says, opens, reads, merges, writes, prints, after_act, ending, Breaks, PerformsActs, RunEnds, completes, stops, when, TangleCourse, unread, not_there, change_not_there, tangling, script, web_acts, planned_acts, closing_acts, Planning, refused, planned, Web, ActsKeepLimits, HasReadAll}
+use Rattle.cweb_tools.proofs.Common.{◌≡◌, ◌≢◌, ◌⊎◌, inl, inr, ℕ, ◌+◌, Bool, false, List, [], ◌∷◌, ◌++◌, ap, Some, Stop, ReadFault, LogItem, banner, fault_count, Shown, Devices, SinkModel, Act, says, opens, reads, merges, writes, prints, after_act, ending, Breaks, PerformsActs, RunEnds, completes, stops, when, TangleCourse, unread, not_there, change_not_there, tangling, script, web_acts, planned_acts, closing_acts, Planning, refused, planned, Web, ActsKeepLimits, HasReadAll, arith}
 use Rattle.cweb_tools.proofs.Broken.{broken}
 use Rattle.cweb_tools.proofs.WebActs.{Any, when_on, said_on, starred_on, outputs_on, closing_on, warning_on}
 use Rattle.cweb_tools.proofs.Doing.{counts_all}
@@ -44,8 +44,7 @@ pub shelf_stays : (act : Act) (stop : Stop) (about : List ℕ) (old new : Device
 shelf_stays (reads names events) stop about old new none broke = absurd none
 shelf_stays (merges names events) stop about old new none broke = absurd none
 shelf_stays act (ReadFault file) about old new none broke = absurd broke
-shelf_stays act stop about old new none broke =
-    ap (λ (shelf : FailedReads). shelf.failed) (broken act stop about old new broke).shelf
+shelf_stays act stop about old new none broke = grind (arith, broken)
 
 pub shelf_none : (acts : List Act) (stop : Stop) (about : List ℕ) (old new : Devices) → ReadsNone acts
     → PerformsActs acts (Some (ending stop about)) old new → new.shelf.failed ≡ old.shelf.failed
@@ -74,16 +73,14 @@ reads_none-web shown web = starred_on Any ReadsNone said shown.progress web.star
         (λ name. tt) (λ name text acts none. none) (closing_none (fault_count web.faults) missing))
 
 reads_first-banner : (shown : Shown) (acts : List Act) → ReadsFirst acts → ReadsFirst (when shown.banner banner ++ acts)
-reads_first-banner shown acts first =
-    when_on Any ReadsFirst (λ item acts said rest. rest) shown.banner banner acts tt first
+reads_first-banner shown acts first = grind (arith, when_on)
 
 -- A script reads nothing after the first file is written.
 pub script_reads_first : (shown : Shown) (course : TangleCourse) → ReadsFirst (script shown course)
 script_reads_first shown unread = tt
 script_reads_first shown (not_there web) = reads_first-banner shown (opens ∷ says _ ∷ []) tt
 script_reads_first shown (change_not_there change) = reads_first-banner shown (opens ∷ says _ ∷ []) tt
-script_reads_first shown (tangling files events web) = reads_first-banner shown
-    (opens ∷ reads files events ∷ web_acts shown web) (reads_first (web_acts shown web) (reads_none-web shown web))
+script_reads_first shown (tangling files events web) = grind (arith, reads_first-banner, reads_first, reads_none-web)
 
 -- A run that changed the output has read everything.
 all_read : (acts : List Act) (stop : Stop) (about : List ℕ) (old new : Devices) → ReadsFirst acts
@@ -91,37 +88,18 @@ all_read : (acts : List Act) (stop : Stop) (about : List ℕ) (old new : Devices
 all_read [] stop about old new first run = absurd run
 all_read (merges names events ∷ acts) stop about old new first run = absurd first
 all_read (prints text ∷ acts) stop about old new first run = absurd first
-all_read (writes name text ∷ acts) stop about old new first (inl run) = inr (record {
-  shelf = shelf_none acts stop about (after_act (writes name text) old) new first run.1;
-  within = (tt, keeps_none acts first);
-})
-all_read (writes name text ∷ acts) stop about old new first (inr here) = inr (record {
-  shelf = shelf_stays (writes name text) stop about old new tt here;
-  within = (tt, keeps_none acts first);
-})
+all_read (writes name text ∷ acts) stop about old new first (inl run) = grind (arith, inr, shelf_none, keeps_none)
+all_read (writes name text ∷ acts) stop about old new first (inr here) = grind (arith, inr, shelf_stays, keeps_none)
 all_read (act ∷ acts) stop about old new first (inl run) =
-    elim (all_read acts stop about (after_act act old) new first run.1) [
-      | inl same ↦ inl same
-      | inr all ↦ inr (record { shelf = all.shelf; within = (run.0, all.within) })
-    ]
-all_read (act ∷ acts) stop about old new first (inr here) =
-    inl ((broken act stop about old new here).out (λ of_output. of_output))
+    grind (arith, all_read acts stop about (after_act act old) new first run.1, inl, inr)
+all_read (act ∷ acts) stop about old new first (inr here) = grind (arith, inl, broken)
 
 pub ends_read : (shown : Shown) (course : TangleCourse) {expected : ℕ} {old new : Devices} {status : ℕ}
     → RunEnds (script shown course) expected old new status
     → (new.out ≡ old.out) ⊎ HasReadAll (script shown course) old new
-ends_read shown course {old = old} {new = new} (completes run answered) = inr (record {
-  shelf = (counts_all (script shown course) old new run).0;
-  within = limits_all (script shown course) old new run;
-})
+ends_read shown course {old = old} {new = new} (completes run answered) = grind (arith, inr, counts_all, limits_all)
 ends_read shown course {old = old} {new = new} (stops (ending stop about) mid run logs answered) =
-    elim (all_read (script shown course) stop about old mid (script_reads_first shown course) run) [
-      | inl same ↦ inl (ap (λ (d : Devices). d.out) logs.others ∙ same)
-      | inr all ↦ inr (record {
-        shelf = ap (λ (d : Devices). d.shelf.failed) logs.others ∙ all.shelf;
-        within = all.within;
-      })
-    ]
+    grind (arith, all_read, script_reads_first, inl, inr)
 
 -- If the output differs, everything was read.
 pub read_if_changed : {A : Type 0} (part : SinkModel → A) {acts : List Act} {old new : Devices}

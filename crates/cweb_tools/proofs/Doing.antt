@@ -18,8 +18,7 @@ does_in {xs} ys {why} {before} {after} first = record { runs = stops_in xs ys wh
 -- The first acts were done, and the run ended in the others.
 pub ends_on : {xs ys : List Act} {expected : ℕ} {before mid after : Devices} {status : ℕ}
     → Does xs None before mid → RunEnds ys expected mid after status → RunEnds (xs ++ ys) expected before after status
-ends_on {xs} {ys} {before = before} {mid = mid} {after = after} first (completes run answered) =
-    completes (runs_on xs ys None before mid after first.runs run) answered
+ends_on {xs} {ys} {before = before} {mid = mid} {after = after} first (completes run answered) = grind (arith, runs_on)
 ends_on {xs} {ys} {before = before} {mid = mid} first (stops why then run logs answered) =
     stops why then (runs_on xs ys (Some why) before mid then first.runs run) logs answered
 

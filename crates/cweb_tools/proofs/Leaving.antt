@@ -28,8 +28,7 @@ left_printed acts text old left = grind (arith, files_stay, draft_stays)
 
 runs_left : (acts : List Act) (why : Option Ending) (old new : Devices) → PerformsActs acts why old new
     → Leaves acts old.out new.out
-runs_left [] None old new run =
-    (none_done (ap (λ (d : Devices). files_in d.out) run), λ none. ap (λ (d : Devices). draft_in d.out) run ∙ none)
+runs_left [] None old new run = grind (arith, none_done)
 runs_left [] (Some why) old new run = absurd run
 runs_left (writes name text ∷ acts) why old new (inl run) =
     let file : File = record { name = name; bytes = text } in
@@ -48,9 +47,7 @@ runs_left (prints text ∷ acts) why old new (inl run) =
     left_printed acts text old.out (runs_left acts why (after_act (prints text) old) new run.1)
 runs_left (act ∷ acts) why old new (inl run) = runs_left acts why (after_act act old) new run.1
 runs_left (act ∷ acts) None old new (inr broke) = absurd broke
-runs_left (act ∷ acts) (Some (ending stop about)) old new (inr broke) =
-    let left = broken act stop about old new broke in
-    (none_done left.files, left.draft)
+runs_left (act ∷ acts) (Some (ending stop about)) old new (inr broke) = grind (arith, broken, none_done)
 
 -- The line of a stop changes only the log.
 ends_left : {acts : List Act} {expected : ℕ} {old new : Devices} {status : ℕ}

@@ -1,5 +1,5 @@
 -- What runs leave in the shelf.
-use Rattle.cweb_tools.proofs.Common.{◌≡◌, inl, inr, ℕ, List, [], ◌∷◌, ◌∙◌, ap, arith, Some, None, Devices, FailedReads, Stop, ReadFault, Act, judges, after_act, ending, PerformsActs, RunEnds, completes, stops, FollowsActs, IsStopped}
+use Rattle.cweb_tools.proofs.Common.{◌≡◌, inl, inr, ℕ, List, [], ◌∷◌, ◌∙◌, ap, arith, Some, None, Devices, Stop, ReadFault, Act, judges, after_act, ending, PerformsActs, RunEnds, completes, stops, FollowsActs, IsStopped}
 use Rattle.cweb_tools.specs.laws.LeftDevices.{LeavesShelf}
 use Rattle.cweb_tools.proofs.Broken.{broken, shelf_after}
 use Rattle.cweb_tools.proofs.Stopping.{is_stopped, logs_all}
@@ -26,11 +26,7 @@ shelf_so stop about is same answered = grind arith
 
 ends_shelf : {acts : List Act} {expected : ℕ} {old new : Devices} {status : ℕ} → RunEnds acts expected old new status
     → LeavesShelf old.shelf new.shelf old.log new.log status
-ends_shelf {acts} {old = old} {new = new} (completes run answered) =
-    let same = shelf_all acts old new run in record {
-      none = λ counted. same;
-      one = λ differs. absurd (differs (ap (λ (shelf : FailedReads). shelf.failed) same));
-    }
+ends_shelf {acts} {old = old} {new = new} (completes run answered) = grind (arith, shelf_all)
 ends_shelf {acts} {old = old} (stops (ending stop about) mid run logs answered) = shelf_so stop about
     (is_stopped acts mid run logs)
     (ap (λ (d : Devices). d.shelf) logs.others ∙ shelf_until acts stop about old mid run) answered

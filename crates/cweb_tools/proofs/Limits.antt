@@ -80,18 +80,7 @@ first_only : (a b : List Event) (x y : SourceLine) (s t : List Event) → a ++ t
 first_only [] [] x y s t is = inl (refl, cc)
 first_only [] (e ∷ b) x y s t is = inr (inl (b, cc))
 first_only (e ∷ a) [] x y s t is = inr (inr (a, cc))
-first_only (e ∷ a) (f ∷ b) x y s t is =
-    let head : e ≡ f = cc in
-    let rest : a ++ took x ∷ s ≡ b ++ took y ∷ t = cc in
-    by head (first_only a b x y s t rest)
-  where
-    by : e ≡ f → ((a ≡ b) × (x ≡ y)) ⊎ (((more : List Event) × (b ≡ a ++ took x ∷ more))
-        ⊎ ((more : List Event) × (a ≡ b ++ took y ∷ more)))
-        → ((e ∷ a ≡ f ∷ b) × (x ≡ y)) ⊎ (((more : List Event) × (f ∷ b ≡ e ∷ a ++ took x ∷ more))
-        ⊎ ((more : List Event) × (e ∷ a ≡ f ∷ b ++ took y ∷ more)))
-    by head (inl same) = inl ((λ i. head i ∷ same.0 i), same.1)
-    by head (inr (inl after)) = inr (inl (after.0, (λ i. sym head i ∷ after.1 i)))
-    by head (inr (inr after)) = inr (inr (after.0, (λ i. head i ∷ after.1 i)))
+first_only (e ∷ a) (f ∷ b) x y s t is = grind (arith, first_only a b x y s t (cc), inl, inr)
 
 refuses_only : (stop other : Stop) (count : TakenCountersModel) (line : SourceLine) → RefusesLine stop count line
     → RefusesLine other count line → stop ≡ other

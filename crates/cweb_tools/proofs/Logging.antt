@@ -17,8 +17,7 @@ cuts (x ∷ a) b (y ∷ prefix) rest is = grind (arith, cuts a b prefix rest (cc
 lines_stop : (item : LogItem) (items : List LogItem) (shelf : FailedReads) (out : SinkModel) (old new : SinkModel)
     → FailsWithin (flat_map line (item ∷ items)) old new
     → PerformsActs (map says (item ∷ items)) (Some (ending LogFault [])) (at shelf out old) (at shelf out new)
-lines_stop item [] shelf out old new fails =
-    inr (record { log = rw (append-nil (line item)) at fails; others = refl })
+lines_stop item [] shelf out old new fails = grind (arith, inr, append-nil)
 lines_stop item (next ∷ items) shelf out old new fails =
     elim (cuts (line item) (flat_map line (next ∷ items)) fails.prefix fails.rest fails.whole) [
       | inl cut ↦ inr (record {
@@ -49,8 +48,7 @@ pub said_all : {A E : Type 0} (r : Result A E) (item : LogItem) (items : List Lo
     → DoesInLog (map says (item ∷ items)) (log_ending r) old new
 said_all (Ok x) item items {old} {new} writes =
     λ shelf out. record { runs = lines_said (item ∷ items) shelf out old new writes }
-said_all (Err e) item items {old} {new} writes =
-    λ shelf out. record { runs = lines_stop item items shelf out old new writes }
+said_all (Err e) item items {old} {new} writes = grind (arith, lines_stop)
 
 -- One line.
 pub said : {A E : Type 0} (r : Result A E) (item : LogItem) {old new : SinkModel}

@@ -143,11 +143,7 @@ module _ (files opened rest : List (List ℕ)) (names : files ≡ opened ++ rest
 pub prints_none : (stop : Stop) (opened rest : List (List ℕ)) {out out' : SinkModel} → WritingStops stop
     → files_named stop ≤ length opened → out'.contents ≡ appended [] out.contents
     → PrintsUntil stop (opened ++ rest) opened (read_by stop) out out'
-prints_none WriteFault opened rest kind known none = record {
-  prefix = [];
-  is = none;
-  breaks = write_broke _ opened rest refl (read_by WriteFault) [] [] refl;
-}
+prints_none WriteFault opened rest kind known none = grind arith
 prints_none stop opened rest kind known none = record {
   prefix = [];
   is = none;

@@ -27,8 +27,7 @@ log_once (log_failed fails) = inr (ap (λ (log : SinkModel). log.failed) fails.i
 -- No device failed twice.
 pub fail_once : {acts : List Act} {expected : ℕ} {old new : Devices} {status : ℕ}
     → RunEnds acts expected old new status → TangleFailsOnce old new
-fail_once {acts} {old = old} {new = new} (completes run answered) =
-    let same = counts_all acts old new run in record { shelf = inl same.0; bins = inl same.1; log = inl same.2 }
+fail_once {acts} {old = old} {new = new} (completes run answered) = grind (arith, counts_all, inl)
 fail_once {acts} {old = old} {new = new} (stops (ending stop about) then run logs answered) =
     let is = is_stopped acts then run logs in
     record {

@@ -1,5 +1,5 @@
 -- The law of blanks, by induction on the tokens.
-use Rattle.cweb_tools.proofs.Common.{◌≡◌, ℕ, Bool, true, false, cond, ◌==◌, not, List, [], ◌∷◌, ◌++◌, Option, Some, None, All, refl, ap, ◌∙◌, append_assoc, codes, if◌then◌else◌, nat_le, decimal, list_all, flat_map-append, All-head, All-tail, list_all-append, Token, Word, Number, Literal, Punct, Blank, Newline, Join, Head, Tail, first_is, is_quiet, Reading, InPlainC, HasReadTokens, IsReadAs, ReadsAlone, significant, is_insignificant, doubled, at_doubled, is_hash, spelling_of, continues_token, Setting, print_after, file_token_bytes, word_bytes, without_joined_layout, sep, are_apart, IsPlain, Spacing, is_ascii, and_parts, and_from, not-true, arith}
+use Rattle.cweb_tools.proofs.Common.{◌≡◌, ℕ, Bool, true, false, cond, not, List, [], ◌∷◌, ◌++◌, Option, Some, None, All, refl, ap, ◌∙◌, append_assoc, codes, if◌then◌else◌, nat_le, decimal, list_all, flat_map-append, All-head, All-tail, list_all-append, Token, Word, Number, Literal, Punct, Blank, Newline, Join, Head, Tail, first_is, is_quiet, Reading, InPlainC, HasReadTokens, IsReadAs, ReadsAlone, significant, is_insignificant, doubled, at_doubled, is_hash, spelling_of, continues_token, Setting, print_after, file_token_bytes, word_bytes, without_joined_layout, sep, are_apart, IsPlain, Spacing, is_ascii, and_parts, and_from, arith}
 use Rattle.cweb_rules.proofs.Joins.{unlike}
 use Rattle.cweb_scan.specs.Lexemes.{lex}
 use Rattle.cweb_scan.proofs.Gaps.{one_more}
@@ -10,18 +10,12 @@ use Rattle.cweb_tools.proofs.SpacingSeam.{seam, blank_after}
 
 ascii_text : (s : Setting) (b : List ℕ) → is_ascii b ≡ true → word_bytes s.replaced b ≡ b
 ascii_text s [] h = refl
-ascii_text s (c ∷ b) h =
-    let e = and_parts (not (nat_le 128 c)) (is_ascii b) h in
-    ap (λ v. (if v then s.replaced c else c ∷ []) ++ word_bytes s.replaced b) (not-true (nat_le 128 c) e.0)
-    ∙ ap (λ t. c ∷ t) (ascii_text s b e.1)
+ascii_text s (c ∷ b) h = grind (arith, and_parts, ascii_text s b (and_parts (not (nat_le 128 c)) (is_ascii b) h).1)
 
 quiet_doubled : (x : List ℕ) → list_all is_quiet x ≡ true → doubled x ≡ x
 quiet_doubled [] h = refl
 quiet_doubled (b ∷ x) h =
-    let q = and_parts (is_quiet b) (list_all is_quiet x) h in
-    let at = not-true (64 == b) (and_parts (not (42 == b)) (not (64 == b)) q.0).1 in
-    ap (λ v. (if v then codes "@@" else b ∷ []) ++ doubled x) (unlike (λ c. 64 == c) b 64 true refl at)
-    ∙ ap (λ t. b ∷ t) (quiet_doubled x q.1)
+    grind (arith, and_parts, unlike, quiet_doubled x (and_parts (is_quiet b) (list_all is_quiet x) h).1)
 
 head_text : (n : ℕ) → doubled (47 ∷ 42 ∷ decimal n ++ 58 ∷ 42 ∷ 47 ∷ []) ≡ comment_of (decimal n ++ 58 ∷ [])
 head_text n = grind (arith, flat_map-append, quiet_doubled, quiet_decimal, append_assoc)
@@ -58,8 +52,7 @@ step : (s : Setting) (left : Option Token) {r : Reading} (u : Token) {rest : Lis
 step s left {r} Blank {rest} h plain goes =
     record { next = r; goes_on = run_blank r rest plain; read = nothing r.state plain }
 step s left {r} Newline {rest} h plain goes = newline_read r rest plain
-step s left {r} (Head n) {rest} h plain goes =
-    rw (head_text n) (comment_read r (decimal n ++ 58 ∷ []) rest (quiet_head n) plain)
+step s left {r} (Head n) {rest} h plain goes = grind (arith, head_text, comment_read, quiet_head)
 step s left {r} (Tail n) {rest} h plain goes =
     rw (tail_text n) (comment_read r (58 ∷ decimal n) rest (quiet_decimal n) plain)
 step s left {r} (Word b) {rest} h plain goes = rw (ascii_text s b h.0) (solid_read h.1 refl plain goes)

@@ -1,5 +1,5 @@
 -- The first byte of each printed token.
-use Rattle.cweb_tools.proofs.Common.{◌≡◌, ℕ, Bool, true, false, cond, ◌&&◌, ◌||◌, ◌==◌, not, List, [], ◌∷◌, Some, None, refl, ap, ◌∙◌, list_all, Token, Word, Number, Literal, Punct, Blank, Newline, Head, Tail, is_one_of, is_digit, is_word_byte, first_is, JoinsAll, after_word, begins_as, unescaped, Kind, Effect, EmitAt, End, Closed, ReadsAlone, doubled, token_of, spelling_of, literal_token, is_clean, is_operator, and_parts, or_parts, same_Some, not-true, arith}
+use Rattle.cweb_tools.proofs.Common.{◌≡◌, ℕ, Bool, true, false, cond, ◌&&◌, ◌||◌, ◌==◌, not, List, [], ◌∷◌, Some, None, refl, list_all, Token, Word, Number, Literal, Punct, Blank, Newline, Head, Tail, is_one_of, is_digit, is_word_byte, first_is, JoinsAll, after_word, begins_as, unescaped, Kind, Effect, EmitAt, End, Closed, ReadsAlone, doubled, token_of, spelling_of, literal_token, is_clean, is_operator, and_parts, or_parts, same_Some, not-true, arith}
 use Rattle.cweb_rules.specs.Matches as kind
 use Rattle.cweb_rules.proofs.Joins.{unlike}
 use Rattle.cweb_rules.proofs.Stays.{begins_number}
@@ -34,8 +34,7 @@ pub none_of : (p : ℕ → Bool) (set : List ℕ) (c : ℕ)
     → list_all (λ x. not (p x)) set ≡ true → p c ≡ true → is_one_of set c ≡ false
 none_of p [] c h e = refl
 none_of p (x ∷ set) c h e =
-    let q = and_parts (not (p x)) (list_all (λ x. not (p x)) set) h in
-    ap (λ v. v || is_one_of set c) (unlike p x c true e (not-true (p x) q.0)) ∙ none_of p set c q.1 e
+    grind (arith, and_parts, unlike, none_of p set c (and_parts (not (p x)) (list_all (λ x. not (p x)) set) h).1 e)
 
 code_first : (e : Effect) {d : List ℕ} {u : Token}
     → token_of (kind.Code e) d ≡ Some u → d ≡ doubled (spelling_of u) → First u d

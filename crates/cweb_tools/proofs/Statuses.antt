@@ -1,6 +1,6 @@
 -- The status of a run that nothing stops.
 use Rattle.cweb_tools.specs.declared.rule_targets.Targets.{Targets}
-use Rattle.cweb_tools.proofs.Common.{◌≡◌, ◌<◌, ◌+◌, ℕ, Bool, true, false, cond, ◌||◌, List, [], ◌∷◌, ◌++◌, map, refl, sym, ◌∙◌, ap, arith, nat_tests, sum_by-cons, or-true, or-false, list_any-append, ◌==◌, count_by, if◌then◌else◌, list_any, WebNotOpened, ChangeNotOpened, LogItem, banner, fault_count, faults, is_fault, no_errors, see_warning, stopped, Shown, Act, opens, reads, says, Numbers, Planning, TangleCourse, logged_items, planned, planned_acts, refused, tangle_status, Web, acts_status, depend_acts, depend_web_acts, depend_plan_acts, tangling, unread, not_there, change_not_there, web_acts, when, web_status, status_by}
+use Rattle.cweb_tools.proofs.Common.{◌≡◌, ◌<◌, ◌+◌, ℕ, Bool, true, false, cond, ◌||◌, List, [], ◌∷◌, ◌++◌, map, refl, sym, ◌∙◌, ap, arith, nat_tests, sum_by-cons, or-true, or-false, list_any-append, ◌==◌, count_by, if◌then◌else◌, list_any, WebNotOpened, LogItem, banner, fault_count, faults, is_fault, no_errors, see_warning, stopped, Shown, Act, opens, says, Numbers, Planning, TangleCourse, logged_items, planned, planned_acts, refused, tangle_status, Web, acts_status, depend_acts, depend_web_acts, depend_plan_acts, tangling, unread, not_there, change_not_there, web_acts, when, web_status, status_by}
 use Rattle.cweb_tools.proofs.WebActs.{when_on, starred_on, outputs_on, closing_on, warning_on}
 
 -- Whether acts log a fault.
@@ -17,8 +17,7 @@ items_in-said (item ∷ items) acts = ap (λ (all : List LogItem). item ∷ all)
 
 fault-said : (items : List LogItem) (acts : List Act)
     → has_fault (map says items ++ acts) ≡ (list_any is_fault items || has_fault acts)
-fault-said items acts =
-    ap (list_any is_fault) (items_in-said items acts) ∙ list_any-append is_fault items (logged_items acts)
+fault-said items acts = grind (arith, items_in-said, list_any-append)
 
 -- The item is no fault.
 abbrev IsQuiet : LogItem → Type 0
@@ -67,23 +66,14 @@ by_count false n some none = ap (λ (m : ℕ). if m == 0 then 0 else 1) (sym (no
 status_planned : (items : List LogItem) (plan : Planning)
     → status_for (list_any is_fault items || is_refused plan) ≡ status_by (fault_count items) plan
 status_planned items (refused text) = ap status_for (or-true (list_any is_fault items))
-status_planned items (planned files missing) = ap status_for (or-false (list_any is_fault items))
-    ∙ by_count
-    (list_any is_fault items) (fault_count items) (counted_some is_fault items).0 (counted_some is_fault items).1
+status_planned items (planned files missing) = grind (arith, or-false, by_count, counted_some)
 
 pub banner_status : (shown : Shown) (acts : List Act)
     → acts_status (when shown.banner banner ++ acts) ≡ acts_status acts
-banner_status shown acts = ap status_for
-    (when_on IsQuiet (Shows (has_fault acts)) (quiet_on (has_fault acts)) shown.banner banner acts refl refl)
+banner_status shown acts = grind (arith, when_on, quiet_on)
 
 pub web_status_is : (shown : Shown) (web : Web) → acts_status (web_acts shown web) ≡ web_status web
-web_status_is shown web =
-    let faults = list_any is_fault web.faults in
-    let b = faults || is_refused web.plan in
-    ap status_for (starred_on IsQuiet (Shows b) (quiet_on b) shown.progress web.starred _ (λ ns. refl)
-    (fault-said web.faults _ ∙ ap (λ (f : Bool). faults || f)
-    (fault-planned shown web.numbers (fault_count web.faults) web.plan)))
-    ∙ status_planned web.faults web.plan
+web_status_is shown web = grind (arith, starred_on, quiet_on, fault-said, fault-planned, status_planned)
 
 fault-depend : (targets : Targets) (files : List (List ℕ)) (plan : Planning)
     → has_fault (depend_plan_acts targets files plan) ≡ is_refused plan
@@ -92,17 +82,11 @@ fault-depend targets files _ = refl
 
 pub depend_status_is : (targets : Targets) (files : List (List ℕ)) (web : Web)
     → acts_status (depend_web_acts targets files web) ≡ web_status web
-depend_status_is targets files web =
-    let faults = list_any is_fault web.faults in
-    ap status_for (fault-said web.faults _ ∙ ap (λ (f : Bool). faults || f) (fault-depend targets files web.plan))
-    ∙ status_planned web.faults web.plan
+depend_status_is targets files web = grind (arith, fault-said, fault-depend, status_planned)
 
 pub same_status : (targets : Targets) (shown : Shown) (course : TangleCourse)
     → acts_status (depend_acts targets course) ≡ tangle_status shown course
 same_status targets shown unread = refl
 same_status targets shown (not_there web) = sym (banner_status shown (opens ∷ says (stopped WebNotOpened web) ∷ []))
-same_status targets shown (change_not_there change) =
-    sym (banner_status shown (opens ∷ says (stopped ChangeNotOpened change) ∷ []))
-same_status targets shown (tangling files events web) =
-    depend_status_is targets files web ∙ sym (web_status_is shown web)
-    ∙ sym (banner_status shown (opens ∷ reads files events ∷ web_acts shown web))
+same_status targets shown (change_not_there change) = grind (arith, banner_status)
+same_status targets shown (tangling files events web) = grind (arith, depend_status_is, web_status_is, banner_status)

@@ -62,15 +62,7 @@ stopped_at (says item) LogFault about old mid new fails logs acts =
 stopped_at (reads names events) LogFault about old mid new broke logs acts = absurd broke.fails
 stopped_at (merges names events) LogFault about old mid new broke logs acts = absurd broke.fails
 stopped_at act LogFault about old mid new broke logs acts = absurd broke
-stopped_at act stop about old mid new broke logs acts =
-    let left = broken act stop about old mid broke in
-    let never : stop ≡ LogFault → ⊥ = λ is. cc in
-    record {
-      log = grind arith;
-      shelf = ap (λ (d : Devices). d.shelf.failed) logs.others ∙ shelf_counted stop about old.shelf left.shelf;
-      bins = ap (λ (d : Devices). d.out.failed) logs.others ∙ left.bins;
-      log_fails = λ fault. absurd (never fault);
-    }
+stopped_at act stop about old mid new broke logs acts = grind (arith, broken, shelf_counted)
 
 logged-append : (xs ys : List Act) → logged_items (xs ++ ys) ≡ logged_items xs ++ logged_items ys
 logged-append [] ys = refl

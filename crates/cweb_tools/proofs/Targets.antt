@@ -1,5 +1,5 @@
 -- The targets that `wdep` prints are the files that `ctangle` writes.
-use Rattle.cweb_tools.proofs.Common.{◌≡◌, ℕ, Bool, true, false, List, [], ◌∷◌, ◌++◌, map, refl, sym, ◌∙◌, ap, File, Event, LogItem, Shown, Act, opens, reads, Planning, planned, Web, tangling, written_files, outputs_acts, planned_acts, web_acts, tangle_files, dependencies, fault_count}
+use Rattle.cweb_tools.proofs.Common.{◌≡◌, ℕ, Bool, true, false, List, [], ◌∷◌, ◌++◌, map, refl, sym, ◌∙◌, ap, File, Event, LogItem, Shown, Act, opens, reads, Planning, planned, Web, tangling, written_files, outputs_acts, planned_acts, web_acts, tangle_files, dependencies, fault_count, arith}
 use Rattle.cweb_tools.specs.Depfile.{depfile, each_once}
 use Rattle.cweb_tools.specs.laws.LeftDevices.{TargetsAreWrittenFiles}
 use Rattle.cweb_tools.specs.declared.rule_targets.Targets.{Targets}
@@ -20,10 +20,8 @@ says_on files item acts any rest = rest
 outputs_written : (progress : Bool) (files : List File) (acts : List Act) → Writes [] acts
     → Writes files (outputs_acts progress files ++ acts)
 outputs_written progress [] acts none = none
-outputs_written true (file ∷ files) acts none =
-    ap (λ (all : List File). file ∷ all) (outputs_written true files acts none)
-outputs_written false (file ∷ files) acts none =
-    ap (λ (all : List File). file ∷ all) (outputs_written false files acts none)
+outputs_written true (file ∷ files) acts none = grind (arith, outputs_written true files acts none)
+outputs_written false (file ∷ files) acts none = grind (arith, outputs_written false files acts none)
 
 tangle_written : (shown : Shown) (files : List (List ℕ)) (events : List Event) (web : Web) (outputs : List File)
     (missing : Bool) → web.plan ≡ planned outputs missing → tangle_files shown (tangling files events web) ≡ outputs
