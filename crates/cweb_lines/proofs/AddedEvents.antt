@@ -64,11 +64,8 @@ module _ {old new : SoFar} {all : List Event} (more : List Event) where
 
 pub stopped_more : (stop : Stop) (old new : SoFar) (all more : List Event) → ReadsNext more → Stopped stop old new all
     → Stopped stop old new (all ++ more)
-stopped_more (ReadFault file) old new all more reads stopped = record {
-  later = stopped.later ++ more;
-  yields = yields_more more stopped.yields;
-  next = reads-append stopped.later more stopped.next reads;
-}
+stopped_more (ReadFault file) old new all more reads stopped =
+    grind (arith, yields_more more stopped.yields, reads-append stopped.later more stopped.next reads)
 stopped_more (LineTooLong file) old new all more reads stopped = after_more more stopped
 stopped_more TooMuchText old new all more reads stopped = after_more more stopped
 stopped_more Memory old new all more reads stopped = tt

@@ -14,8 +14,7 @@ printed_none sink = record { text = []; is = written_none sink }
 
 pub printed_then : {old mid new : SinkModel} (more : List ℕ) (done : Printed old mid) → new ≡ written more mid
     → Printed old new
-printed_then {old} more done wrote =
-    record { text = done.text ++ more; is = written_then done.text more old done.is wrote }
+printed_then {old} more done wrote = grind (arith, written_then done.text more old done.is wrote)
 
 pub printed_all : {old new : SinkModel} → Printed old new → Prints old new
 printed_all done = record { text = done.text; is = ap (λ (sink : SinkModel). sink.contents) done.is }
@@ -37,15 +36,8 @@ pub held : (room : ℕ) (old so : SoFar) (all now : List Event) (Wrote : List �
     HasWritten old so all now Wrote
     → (line : Line) (so' : SoFar) (later : List Event) → EmitsLines (line ∷ []) so so' now later
     → (buffer : List ℕ) → buffer ≡ line.bytes ++ 10 ∷ [] → BuffersLines room old so' all later Wrote buffer
-held room old so all now Wrote g line so' later next buffer is = record {
-  done = g.lines;
-  buffered = line ∷ [];
-  yields = yields_both g.lines (line ∷ []) old so so' all now later g.yields next;
-  wrote = g.wrote;
-  piece_is = simp is;
-  some = omega arith;
-  within = λ more. absurd (omega (arith, more));
-}
+held room old so all now Wrote g line so' later next buffer is =
+    grind (arith, g.lines, yields_both g.lines (line ∷ []) old so so' all now later g.yields next, g.wrote)
 
 within_on : (room : ℕ) (buffer : List ℕ) (a b : List Line) → buffer ≡ written_lines a
     → (1 < length a → length (written_lines (all_but_last a)) < room)

@@ -11,9 +11,7 @@ printed-append : (a b : List (List ℕ))
 printed-append a b = simp (map-append, standing-append)
 
 pub all_but_last-append : {A : Type 0} (a b : List A) → 0 < length b → all_but_last (a ++ b) ≡ a ++ all_but_last b
-all_but_last-append a b some =
-    let count : length (a ++ b) - 1 ≡ length a + (length b - 1) = omega (arith, length-append a b, some) in
-    ap (λ n. take n (a ++ b)) count ∙ take-append-add a b (length b - 1)
+all_but_last-append a b some = grind (arith, length-append a b, some, take-append-add a b (length b - 1))
 
 -- One line after others that have fewer bytes.
 within_before : (room : ℕ) (a b : List (List ℕ)) → length b ≡ 1 → length (with_newlines a) < room

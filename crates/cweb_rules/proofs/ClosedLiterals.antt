@@ -1,5 +1,5 @@
 -- A literal ends at its quote, whatever follows.
-use Rattle.cweb_rules.proofs.Common.{◌≡◌, ℕ, ◌+◌, ◌-◌, ◌<◌, ◌≤◌, suc, zero, Bool, true, false, cond, ◌&&◌, ◌||◌, ◌==◌, List, [], ◌∷◌, ◌++◌, length, take, drop, refl, ap, sym, ◌∙◌, arith, codes, eqb-true, begins, at_line_end, in_c, Reach, reach_in, with_unit, reach_size, Look, Goes, Ends, reach_of_literal, look_in_literal, Closed, Cut, c_match, literal_match, quoted_match, has_quote_at, literal_prefix, starts_literal, quote_of, starts_raw, raw_match, and_parts, and-false, drop-append-le}
+use Rattle.cweb_rules.proofs.Common.{◌≡◌, ℕ, ◌+◌, ◌-◌, ◌<◌, ◌≤◌, suc, zero, Bool, true, false, cond, ◌||◌, ◌==◌, List, [], ◌∷◌, ◌++◌, length, take, drop, refl, ap, sym, ◌∙◌, arith, codes, eqb-true, begins, at_line_end, in_c, Reach, reach_in, with_unit, reach_size, Look, Goes, Ends, reach_of_literal, look_in_literal, Closed, Cut, c_match, literal_match, quoted_match, has_quote_at, literal_prefix, starts_literal, quote_of, starts_raw, raw_match, and_parts, and-false, drop-append-le}
 use Rattle.cweb_rules.proofs.Chosen.{Passed, passed_prefix}
 use Rattle.cweb_rules.proofs.Raws.{quoted_stays, raw_stays, ends_raw}
 use Rattle.cweb_rules.proofs.Stays.{opening, opens, is_letter_first}
@@ -57,28 +57,10 @@ is_a_quote b P h x y = grind (arith, either, and_parts)
 quote_first : (b : ℕ) (t u : List ℕ) → has_quote_at 0 (b ∷ []) ≡ true → literal_prefix (b ∷ t) ≡ literal_prefix (b ∷ u)
 quote_first b t u h = is_a_quote b (λ n. literal_prefix (n ∷ t) ≡ literal_prefix (n ∷ u)) h refl refl
 
-prefix_one : (b : ℕ) (more : List ℕ) (c : ℕ) → has_quote_at 0 (c ∷ []) ≡ true
-    → literal_prefix (b ∷ c ∷ more) ≡ literal_prefix (b ∷ c ∷ [])
-prefix_one b more c h = grind (arith, is_a_quote c, is_letter_first (b ∷ []), and-false (117 == b))
-
-by_second : (letter q1 q0 : Bool) (P : Type 0)
-    → cond (letter && q1) q1 q0 ≡ true → (q1 ≡ true → P) → (q0 ≡ true → P) → P
-by_second true true q0 P h f g = f refl
-by_second true false q0 P h f g = g h
-by_second false q1 q0 P h f g = g h
-
 prefix_stays : (b : ℕ) (t more : List ℕ) → starts_literal (b ∷ t) ≡ true
     → literal_prefix (b ∷ t ++ more) ≡ literal_prefix (b ∷ t)
 prefix_stays b [] more h = grind (arith, is_letter_first, and-false (117 == b), opening, quote_first b more)
-prefix_stays b (c ∷ []) more h =
-    let t = b ∷ c ∷ [] in
-    let e : cond (is_letter_first t && has_quote_at 1 t) (has_quote_at 1 t) (has_quote_at 0 t) ≡ true =
-    sym (ap (λ v. cond v false (cond (is_letter_first t && has_quote_at 1 t) (has_quote_at 1 t) (has_quote_at 0 t)))
-    (and-false (begins (codes "u8") t)))
-    ∙ sym (opening t)
-    ∙ h in
-    by_second (is_letter_first t) (has_quote_at 1 t) (has_quote_at 0 t) (literal_prefix (b ∷ c ∷ more)
-    ≡ literal_prefix (b ∷ c ∷ [])) e (λ q. prefix_one b more c q) (λ q. quote_first b (c ∷ more) (c ∷ []) q)
+prefix_stays b (c ∷ []) more h = grind arith
 prefix_stays b (c ∷ e ∷ t) more h = refl
 
 quote_within : (n : ℕ) (t more : List ℕ) → has_quote_at n t ≡ true

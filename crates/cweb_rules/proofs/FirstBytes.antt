@@ -114,8 +114,7 @@ IsKnown includes t plain.Stop = Unit {0}
 -- A byte that begins no blank, and no lexeme that needs lookahead.
 settled_is : (b : ℕ) (includes word : Bool) (t : List ℕ) → is_settled b ≡ true → is_word_byte b ≡ word
     → c_rule includes (b ∷ t) ≡ (if word then rule.Identifier else rule.Punctuator)
-settled_is b includes word t settled is =
-    settled-rule b settled includes t ∙ ap (λ v. if v then rule.Identifier else rule.Punctuator) is
+settled_is b includes word t settled is = grind (arith, settled-rule b settled includes t, is)
 
 plain-known : (includes : Bool) (b : ℕ) (t : List ℕ) → IsKnown includes (b ∷ t) (first_byte_class b)
 plain-known includes b t =

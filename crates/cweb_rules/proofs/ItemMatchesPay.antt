@@ -1,5 +1,5 @@
 -- Lexemes of codes, comments and literals are within the source, and their bytes pay.
-use Rattle.cweb_rules.proofs.Common.{◌≡◌, ◌≤◌, ◌<◌, ℕ, zero, suc, ◌+◌, Bool, true, false, ◌||◌, List, [], ◌∷◌, ◌++◌, Option, Some, None, length, take, drop, refl, ap, arith, length-append, if◌then◌else◌, nat_lt, nat_le, codes, flat_map, flat_map-append, length-drop, length-take-le, prefix_len-le-length, ImproperHexNumber, begins, starts_section, is_line_end, is_delimiter, Effect, Nothing, Define, Format, Program, Named, InsertDefs, Joins, EmitAt, Faulty, letter, constant, Transliteration, Reach, body, reach_size, End, Cut, reach_of_control_text, reach_of_name, reach_of_literal, reach_of_included_name, look_in_control, look_in_name, look_in_literal, look_in_include, look_in_raw, reach_of_raw_literal, Kind, Skipped, Code, Letter, Verbatim, Constant, Occurrence, Comment, Quoted, RuleMatch, rule_match, Context, section_match, control_text_match, verbatim_match, constant_match, found_letter_match, letter_match, opener_after, name_match, effect_match, code_match, tex_match, has_quote_at, literal_prefix, starts_literal, quoted_match, quote_of, literal_match, raw_prefix, has_delimiter, starts_raw, delimiter, raw_closer, raw_match, include_match, at_line_ends, Pays, FitsAndPays, second_so}
+use Rattle.cweb_rules.proofs.Common.{◌≡◌, ◌≤◌, ◌<◌, ℕ, zero, suc, ◌+◌, Bool, true, false, List, [], ◌∷◌, ◌++◌, Option, Some, None, length, take, drop, refl, ap, arith, length-append, if◌then◌else◌, nat_lt, nat_le, codes, flat_map, flat_map-append, length-drop, length-take-le, prefix_len-le-length, ImproperHexNumber, begins, starts_section, is_line_end, is_delimiter, Effect, Nothing, Define, Format, Program, Named, InsertDefs, Joins, EmitAt, Faulty, letter, constant, Transliteration, Reach, body, reach_size, End, Cut, reach_of_control_text, reach_of_name, reach_of_literal, reach_of_included_name, look_in_control, look_in_name, look_in_literal, look_in_include, look_in_raw, reach_of_raw_literal, Kind, Skipped, Code, Letter, Verbatim, Constant, Occurrence, Comment, Quoted, RuleMatch, rule_match, Context, section_match, control_text_match, verbatim_match, constant_match, found_letter_match, letter_match, opener_after, name_match, effect_match, code_match, tex_match, has_quote_at, literal_prefix, starts_literal, quoted_match, quote_of, literal_match, raw_prefix, has_delimiter, starts_raw, delimiter, raw_closer, raw_match, include_match, at_line_ends, Pays, FitsAndPays, second_so}
 use Rattle.cweb_rules.specs.declared.effect.Effect.TheVariants as effect
 use Rattle.cweb_rules.proofs.Sizes.{take-at_most, begins-size, units-text, reach-size, control-within, name-within, literal-within, include-within, raw-within, opener_after-size}
 use Rattle.cweb_rules.proofs.TokenSizes.{IsShort, constant-size, IsLetter, letter-size}
@@ -138,15 +138,8 @@ quoted-fair c t n r some fits within =
     (omega (arith, fits, within, length-drop n t))
     (λ e. (omega (arith, e, some), omega (arith, e, units-text us, whole)))
 
-one_of : (a b : Bool) (n : ℕ) → (a || b) ≡ true → (a ≡ true → 1 ≤ n) → (b ≡ true → 1 ≤ n) → 1 ≤ n
-one_of true b n h f g = f refl
-one_of false b n h f g = g h
-
 is_quoted-size : (n : ℕ) (t : List ℕ) → has_quote_at n t ≡ true → n + 1 ≤ length t
-is_quoted-size n t h =
-    let some = one_of (begins (codes "\"") (drop n t)) (begins (codes "'") (drop n t))
-    (length (drop n t)) h (begins-size (codes "\"") (drop n t)) (begins-size (codes "'") (drop n t)) in
-    omega (arith, some, length-drop n t)
+is_quoted-size n t h = grind (arith, length-drop n t)
 
 pub literal_at-fair : (c : Context) (t : List ℕ) → starts_literal t ≡ true → FitsAndPays c t (literal_match t)
 literal_at-fair c t h =

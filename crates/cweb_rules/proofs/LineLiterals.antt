@@ -43,10 +43,7 @@ pub starts_literal_line : (t more : List ℕ) → AtLineEnd more → starts_lite
 starts_literal_line t more e = grind (arith, literal_prefix-line, is_quoted-line, literal_prefix-fits)
 
 pub is_quoted-size : (n : ℕ) (t : List ℕ) → has_quote_at n t ≡ true → n + 1 ≤ length t
-is_quoted-size n t h =
-    let some = or_size (begins (codes "\"") (drop n t)) (begins (codes "'") (drop n t))
-    (length (drop n t)) h (begins-size (codes "\"") (drop n t)) (begins-size (codes "'") (drop n t)) in
-    omega (arith, some, length-drop n t)
+is_quoted-size n t h = grind (arith, length-drop n t)
 
 literal-stops : (quote : ℕ) (more : List ℕ) → (quote == 10) ≡ false → AtLineEnd more
     → reach_of_literal quote more ≡ record { units = []; close = 0; how = Cut }

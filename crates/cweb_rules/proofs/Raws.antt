@@ -188,5 +188,4 @@ raw_stays (a ∷ []) more o ends = absurd (omega (arith, enough (raw_prefix (a �
 raw_stays (a ∷ b ∷ []) more o ends = absurd (omega (arith, enough (raw_prefix (a ∷ b ∷ [])) (a ∷ b ∷ []) ends.0))
 raw_stays (a ∷ b ∷ c ∷ []) more o ends = grind (arith, enough (raw_prefix (a ∷ b ∷ c ∷ [])) (a ∷ b ∷ c ∷ []) ends.0)
 raw_stays (a ∷ b ∷ c ∷ e ∷ t) more o ends =
-    let d = a ∷ b ∷ c ∷ e ∷ t in
-    raw_with (raw_prefix d) d more o ends.0 ends.1
+    grind (arith, raw_with (raw_prefix (a ∷ b ∷ c ∷ e ∷ t)) (a ∷ b ∷ c ∷ e ∷ t) more o ends.0 ends.1)

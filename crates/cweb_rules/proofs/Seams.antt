@@ -1,5 +1,5 @@
 -- What is next doesn't depend on bytes after a seam that can't continue it.
-use Rattle.cweb_rules.proofs.Common.{arith, ◌≡◌, ◌≤◌, ℕ, ◌+◌, Bool, true, false, cond, ◌&&◌, ◌==◌, not, List, [], ◌∷◌, ◌++◌, length, drop, refl, ap, ◌∙◌, list_all, prefix_len, eqb-true, drop-append-le, begins, first_is, is_line_end, is_digit, at_line_end, starts_section, AtLineEnd, longest, number_len, continues_number, starts_number, and_parts, and-false, or-false, and-true}
+use Rattle.cweb_rules.proofs.Common.{arith, ◌≡◌, ◌≤◌, ℕ, ◌+◌, Bool, true, false, cond, ◌==◌, not, List, [], ◌∷◌, ◌++◌, length, drop, refl, ap, ◌∙◌, list_all, prefix_len, eqb-true, drop-append-le, begins, first_is, is_line_end, is_digit, at_line_end, starts_section, AtLineEnd, longest, number_len, continues_number, starts_number, and_parts, and-false, or-false, and-true}
 
 abbrev pub in_line : ℕ → Bool
 in_line b = not (is_line_end b)
@@ -16,8 +16,7 @@ pub begins_stop : (p : ℕ → Bool) (s t more : List ℕ) → list_all p s ≡ 
 begins_stop p [] t more a h = refl
 begins_stop p (x ∷ s) [] [] a h = refl
 begins_stop p (x ∷ s) [] (b ∷ more) a h = grind (arith, differs, and_parts)
-begins_stop p (x ∷ s) (b ∷ t) more a h =
-    ap (λ v. (x == b) && v) (begins_stop p s t more (and_parts (p x) (list_all p s) a).1 h)
+begins_stop p (x ∷ s) (b ∷ t) more a h = grind (arith, begins_stop p s t more (and_parts (p x) (list_all p s) a).1 h)
 
 pub begins_drop : (p : ℕ → Bool) (s : List ℕ) (n : ℕ) (t more : List ℕ) → list_all p s ≡ true
     → first_is p more ≡ false → n ≤ length t → begins s (drop n (t ++ more)) ≡ begins s (drop n t)

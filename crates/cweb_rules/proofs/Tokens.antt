@@ -1,13 +1,13 @@
 -- A token of C text ends by itself, and which bytes begin it.
-use Rattle.cweb_rules.proofs.Common.{◌≡◌, ℕ, Bool, true, false, ◌&&◌, ◌==◌, not, List, [], ◌∷◌, ◌++◌, Option, Some, None, length, drop, refl, ap, sym, ◌∙◌, subst, arith, codes, eqb-true, is_one_of, is_digit, is_word_byte, first_is, starts_section, in_c, letter, Transliteration, Effect, EmitAt, End, Closed, JoinsAll, IsToken, joins_last, continues_lexeme, emits_at, is_token, begins_as, c_match, effect_match, found_letter_match, is_closed, starts_raw, Kind, rule_match, starts_number, and_parts, or_parts, not-false}
+use Rattle.cweb_rules.proofs.Common.{◌≡◌, ℕ, Bool, true, false, ◌&&◌, ◌==◌, List, [], ◌∷◌, ◌++◌, Option, Some, None, length, drop, refl, ap, sym, ◌∙◌, subst, arith, eqb-true, is_digit, is_word_byte, first_is, starts_section, in_c, letter, Transliteration, Effect, EmitAt, End, Closed, JoinsAll, IsToken, joins_last, continues_lexeme, emits_at, is_token, begins_as, c_match, effect_match, found_letter_match, is_closed, starts_raw, Kind, rule_match, starts_number, and_parts, or_parts}
 use Rattle.cweb_rules.specs.declared.effect.Effect.TheVariants as effect
 use Rattle.cweb_rules.specs.Matches as kind
 use Rattle.cweb_rules.proofs.Chosen.{Passed, Coded, Opens, Facts, rule_of, chosen}
 use Rattle.cweb_rules.proofs.ClosedLiterals.{raw_stays_whole, literal_stays_whole}
 use Rattle.cweb_rules.proofs.Joins.{seam_joins}
-use Rattle.cweb_rules.proofs.Raws.{plain_raw, run_all}
+use Rattle.cweb_rules.proofs.Raws.{run_all}
 use Rattle.cweb_rules.proofs.Looks.{at_fits}
-use Rattle.cweb_rules.proofs.Stays.{plain_literal, plain_with, number_first}
+use Rattle.cweb_rules.proofs.Stays.{plain_literal, number_first}
 use Rattle.cweb_rules.proofs.TokensStay.{word_stays, number_stays, punct_stays}
 
 seam_of : (joins : ℕ → ℕ → Bool) (b : ℕ) (t more : List ℕ)
@@ -94,13 +94,6 @@ no_digit : (b : ℕ) (t : List ℕ) → starts_number (b ∷ t) ≡ false → is
 no_digit b [] h = h
 no_digit b (c ∷ t) h = (or_parts (is_digit b) ((b == 46) && is_digit c) h).0
 
-abbrev no_opener : ℕ → Bool
-no_opener b = not (is_one_of (codes "LuUR\"'") b)
-
-literal_byte : (v : Bool) (b : ℕ) (d : List ℕ) → Opens (b ∷ d) v → no_opener b ≡ false
-literal_byte true b d o = grind (arith, no_opener b, plain_raw no_opener)
-literal_byte false b d o = grind (arith, no_opener b, plain_with no_opener)
-
 at_byte : (b : ℕ) → (64 == b) ≡ true → (b == 64) ≡ true
 at_byte b h = subst (λ x. (x == 64) ≡ true) (eqb-true 64 b h) refl
 
@@ -111,8 +104,7 @@ first_of kind.Numeral (b ∷ d) e h = let f = facts_of (b ∷ d) kind.Numeral (l
 first_of kind.Punctuator (b ∷ d) e h =
     grind (arith, facts_of (b ∷ d) kind.Punctuator (length (b ∷ d)) e, plain_literal b d)
 first_of (kind.Quoted units how) (b ∷ d) e h =
-    let f = facts_of (b ∷ d) (kind.Quoted units how) (length (b ∷ d)) e in
-    not-false (is_one_of (codes "LuUR\"'") b) (literal_byte (starts_raw (b ∷ d)) b d f.1)
+    grind (arith, facts_of (b ∷ d) (kind.Quoted units how) (length (b ∷ d)) e)
 first_of (kind.Code c) (b ∷ d) e h =
     let f = facts_of (b ∷ d) (kind.Code c) (length (b ∷ d)) e in at_byte b (and_parts (64 == b) true f.1).0
 first_of _ (b ∷ d) e h = cc

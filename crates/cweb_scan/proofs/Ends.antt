@@ -62,10 +62,8 @@ how-at_end item e t r is = grind (arith, reach-at_end)
 pub control_yields : (t : List ℕ) (r : Reached) (s new : ScanState) → r ≡ reached
     (reach look_in_control Open (drop 2 t))
     → new ≡ pass_control_text (ended_as Cut r.how) s → Applies (control_text_match t) t (2 + (r.size + r.close)) s new
-control_yields t r s new is made = record {
-  size = ap (λ n. 2 + n) (size-at_end ControlText Cut (drop 2 t) r is);
-  state = made ∙ ap (λ (e : End). pass_control_text e s) (how-at_end ControlText Cut (drop 2 t) r is);
-}
+control_yields t r s new is made =
+    grind (arith, size-at_end ControlText Cut (drop 2 t) r is, made, how-at_end ControlText Cut (drop 2 t) r is)
 
 abbrev pub nothing_later : ScanState → Reading
 nothing_later s = record { state = s; later = [] }

@@ -1,5 +1,5 @@
 -- The rule of a literal.
-use Rattle.cweb_scan.proofs.Common.{◌≡◌, ℕ, Bool, true, false, ◌&&◌, List, ◌∷◌, ◌++◌, refl, ap, ◌∙◌, if◌then◌else◌, codes, enter_in, begins, at_line_end, Effect, in_macro, in_c, reads_literals, IsPast, raw_match, literal_match, c_match, starts_raw, starts_literal, End, Skipped, Quoted, RuleMatch, rule_match, takes_opener, match_in, Context, Macro, CText, ScanState, AtLineEnd, arith}
+use Rattle.cweb_scan.proofs.Common.{◌≡◌, ℕ, Bool, true, false, List, ◌∷◌, ◌++◌, refl, codes, enter_in, begins, Effect, in_macro, in_c, reads_literals, IsPast, raw_match, literal_match, c_match, starts_raw, starts_literal, End, Quoted, RuleMatch, takes_opener, match_in, Context, Macro, CText, ScanState, AtLineEnd, arith}
 use Rattle.cweb_rules.proofs.Seams.{begins_line, starts_section_line}
 
 pub enter_quoted : (c : Context) (us : List (List ℕ)) (how : End) (s : ScanState)
@@ -22,8 +22,6 @@ pub literal_first : (c : Context) (includes : Bool) (b : ℕ) (t : List ℕ) (f 
     → reads_literals c ≡ true → begins (codes "\\") (b ∷ t) ≡ false
     → ((effect : ℕ → Effect) (takes_opener includes : Bool) → c_match effect takes_opener includes (b ∷ t) ≡ f)
     → match_in c includes (b ∷ t) ≡ f
-literal_first Macro includes b t f h g k =
-    ap (λ v. if v && at_line_end t then rule_match Skipped 1 else c_match in_macro true false (b ∷ t)) g
-    ∙ k in_macro true false
+literal_first Macro includes b t f h g k = grind (arith, g, k in_macro true false)
 literal_first CText includes b t f h g k = k in_c false includes
 literal_first _ includes b t f h g k = cc

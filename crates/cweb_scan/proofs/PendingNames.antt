@@ -95,13 +95,7 @@ name_two w h = grind (arith, begins-size)
 pub name_over : (takes : Bool) (w line : List ℕ) → starts_name w ≡ true → opens_name w ≡ true
     → (opens_name (with_line w line) ≡ goes_on look_in_name line)
     × (length w + 1 ≤ (name_match takes (with_line w line)).size)
-name_over takes w line sign h =
-    let o = over look_in_name name_crosses 2 w line (name_two w sign) h in
-    (o.0, longer takes _ _ (omega (arith, o.1)))
-  where
-    longer : (takes : Bool) (n sign : ℕ) {m : ℕ} → m ≤ n → m ≤ (if takes then n + sign else n)
-    longer true n sign h = omega (arith, h)
-    longer false n sign h = h
+name_over takes w line sign h = grind (arith, over look_in_name name_crosses 2 w line (name_two w sign) h)
 
 pub name_ended : (takes : Bool) (w : List ℕ) → starts_name w ≡ true → opens_name w ≡ true
     → (name_match takes w).size ≡ length w

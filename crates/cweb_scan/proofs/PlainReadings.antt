@@ -1,5 +1,5 @@
 -- The effect of the law's lexemes on a reading.
-use Rattle.cweb_scan.proofs.Common.{◌≡◌, ℕ, Bool, true, false, cond, ◌&&◌, List, [], ◌∷◌, Some, None, refl, ap, sym, ◌∙◌, subst, fold, Token, Word, Number, Literal, Punct, Reading, after_lexeme, item, on, each_line_end, comment_line_end, blank, punctuator, emit_literal, literal_unit, next_line, line_end, enter_in, enter, Effect, EmitAt, in_directive, unescaped, Closed, Kind, Lexeme, emit, InPlainC, HasReadTokens, significant, is_hash, is_clean, token_of, code_token, same_Some}
+use Rattle.cweb_scan.proofs.Common.{◌≡◌, ℕ, Bool, true, false, cond, ◌&&◌, List, [], ◌∷◌, Some, None, refl, ap, sym, ◌∙◌, subst, fold, Token, Word, Number, Literal, Punct, Reading, after_lexeme, item, on, each_line_end, comment_line_end, blank, punctuator, emit_literal, literal_unit, line_end, enter_in, enter, Effect, EmitAt, in_directive, unescaped, Closed, Kind, Lexeme, emit, InPlainC, HasReadTokens, significant, is_hash, is_clean, token_of, code_token, same_Some, arith}
 use Rattle.cweb_rules.specs.Matches as kind
 use Rattle.cweb_scan.proofs.PlainStates.{blank_yields, and_then, emitted, placed, line_ends, comment_line_ends, next_gives, each_yields, units_give}
 
@@ -24,9 +24,7 @@ literal_yields r units true t h plain clean e =
 code_yields : (r : Reading) (e : Effect) (t : Token) → InPlainC r.state
     → is_hash t ≡ false → code_token e ≡ Some t → Yields r (λ q. item (kind.Code e) [] q) t
 code_yields r EmitAt t h plain e =
-    let u = Punct (64 ∷ []) in
-    subst (λ v. HasReadTokens r.state (emit u r.state) (significant (v ∷ []))) (same_Some u t e)
-    (emitted r.state u h refl)
+    grind (arith, same_Some (Punct (64 ∷ [])) t e, emitted r.state (Punct (64 ∷ [])) h refl)
 code_yields r _ t h plain e = cc
 
 item_yields : (r : Reading) (k : Kind) (bytes : List ℕ) (t : Token) → InPlainC r.state
@@ -34,13 +32,9 @@ item_yields : (r : Reading) (k : Kind) (bytes : List ℕ) (t : Token) → InPlai
 item_yields r (kind.Quoted units Closed) bytes t h plain e = literal_yields r units (is_clean units) t h plain
     (λ c. c) e
 item_yields r kind.Identifier bytes t h plain e =
-    let u = Word bytes in
-    subst (λ v. HasReadTokens r.state (emit u r.state) (significant (v ∷ []))) (same_Some u t e)
-    (emitted r.state u h refl)
+    grind (arith, same_Some (Word bytes) t e, emitted r.state (Word bytes) h refl)
 item_yields r kind.Numeral bytes t h plain e =
-    let u = Number bytes in
-    subst (λ v. HasReadTokens r.state (emit u r.state) (significant (v ∷ []))) (same_Some u t e)
-    (emitted r.state u h refl)
+    grind (arith, same_Some (Number bytes) t e, emitted r.state (Number bytes) h refl)
 item_yields r kind.Punctuator bytes t h plain e =
     let u = Punct bytes in
     let same = same_Some u t e in
@@ -53,13 +47,11 @@ item_yields r _ bytes t h plain e = cc
 -- A lexeme that is a token emits it, without a fault.
 pub token_yields : (r : Reading) (p : Lexeme) (t : Token) → InPlainC r.state → is_hash t ≡ false
     → token_of p.kind p.bytes ≡ Some t → HasReadTokens r.state (after_lexeme r p).state (significant (t ∷ []))
-token_yields r p t h plain e = subst (λ q. HasReadTokens r.state (item p.kind p.bytes q).state (significant (t ∷ [])))
-    (sym (entered r p.kind h)) (item_yields r p.kind p.bytes t h plain e)
+token_yields r p t h plain e = grind (arith, entered r p.kind h, item_yields r p.kind p.bytes t h plain e)
 
 pub line_end_yields : (r : Reading) (bytes : List ℕ) → InPlainC r.state
     → HasReadTokens r.state (after_lexeme r (record { kind = kind.LineEnd; bytes = bytes })).state []
-line_end_yields r bytes h = subst (λ q. HasReadTokens r.state (next_line line_end q).state [])
-    (sym (entered r kind.LineEnd h)) (next_gives line_end line_ends r h)
+line_end_yields r bytes h = grind (arith, entered r kind.LineEnd h, next_gives line_end line_ends r h)
 
 -- A comment that ended emits only layout.
 pub comment_yields : (r : Reading) (bytes : List ℕ) → InPlainC r.state

@@ -1,5 +1,5 @@
 -- The effect of the law's lexemes on a state.
-use Rattle.cweb_scan.proofs.Common.{◌≡◌, ℕ, Bool, true, false, cond, ◌&&◌, ◌||◌, not, List, [], ◌∷◌, ◌++◌, refl, ap, sym, ◌∙◌, subst, append_assoc, codes, bytes_eq, fold, fold-append, filter-append, append-nil, Place, Token, Blank, Newline, Mark, Reading, next_line, each_line_end, line_end, line_end_in, line_end_token, comment_line_end, blank, literal_unit, is_next_line, is_line_end, directive, in_directive, is_c, is_some, is_punct, ScanState, emit, move_to, open_part_tokens, InPlainC, HasReadTokens, significant, is_hash, is_clean, and-false, and_parts, is_last_blank, arith}
+use Rattle.cweb_scan.proofs.Common.{◌≡◌, ℕ, Bool, true, false, cond, ◌&&◌, not, List, [], ◌∷◌, ◌++◌, refl, ap, sym, ◌∙◌, append_assoc, codes, bytes_eq, fold, fold-append, filter-append, append-nil, Place, Token, Blank, Newline, Mark, Reading, next_line, each_line_end, line_end, comment_line_end, blank, literal_unit, is_next_line, is_line_end, directive, in_directive, is_c, is_some, ScanState, emit, move_to, open_part_tokens, InPlainC, HasReadTokens, significant, is_hash, is_clean, and-false, and_parts, is_last_blank, arith}
 
 pub no_directive : (s : ScanState) → InPlainC s → in_directive s ≡ false
 no_directive s h = ap (λ o. is_c s.context && is_some o) h.no_directive ∙ and-false (is_c s.context)
@@ -34,20 +34,10 @@ ends p s true h = placed s (emit (Mark p) s) [] p true (emitted s (Mark p) h ref
 ends p s false h = placed s (emit Newline s) [] p true (emitted s Newline h refl)
 
 pub line_ends : (p : Place) (s : ScanState) → InPlainC s → HasReadTokens s (line_end p s) []
-line_ends p s h =
-    let none = no_directive s h in
-    let token : line_end_token p s ≡ cond (not (is_next_line s.here p)) (Mark p) Newline =
-    ap (λ v. cond (v && is_punct (codes "\\") (directive s).last) Newline
-    (cond ((v && s.folded) || not (is_next_line s.here p)) (Mark p) Newline)) none in
-    let is : line_end p s ≡ move_to p (emit (cond (not (is_next_line s.here p)) (Mark p) Newline) s) =
-    ap (λ c. line_end_in c p s) h.in_c
-    ∙ ap (λ t. move_to p (emit t s)) token in
-    subst (λ t. HasReadTokens s t []) (sym is) (ends p s (not (is_next_line s.here p)) h)
+line_ends p s h = grind (arith, no_directive s h, h.in_c, ends p s (not (is_next_line s.here p)) h)
 
 pub comment_line_ends : (p : Place) (s : ScanState) → InPlainC s → HasReadTokens s (comment_line_end p s) []
-comment_line_ends p s h =
-    subst (λ t. HasReadTokens s t []) (sym (ap (λ v. cond v (move_to p s) (line_end p s)) (no_directive s h)))
-    (line_ends p s h)
+comment_line_ends p s h = grind (arith, no_directive s h, line_ends p s h)
 
 abbrev YieldsNothing : (Place → ScanState → ScanState) → Type 0
 YieldsNothing f = (p : Place) (s : ScanState) → InPlainC s → HasReadTokens s (f p s) []

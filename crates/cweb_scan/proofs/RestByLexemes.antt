@@ -1,5 +1,5 @@
 -- The rest of a line is taken lexeme by lexeme.
-use Rattle.cweb_scan.proofs.Common.{◌≡◌, ℕ, ◌+◌, Bool, true, false, ◌&&◌, List, drop, refl, ap, ◌∙◌, arith, if◌then◌else◌, codes, length-drop, begins, at_line_end, in_macro, in_c, match_in, c_match, Skipped, rule_match, opens_in, c_rule, c_match_by, Macro, CText, ReaderModel, TakesPrefix, drop-sum}
+use Rattle.cweb_scan.proofs.Common.{◌≡◌, ℕ, ◌+◌, Bool, true, false, ◌&&◌, List, drop, refl, arith, codes, length-drop, begins, at_line_end, in_macro, in_c, match_in, opens_in, c_rule, c_match_by, Macro, CText, ReaderModel, TakesPrefix, drop-sum}
 use Rattle.cweb_rules.proofs.ByRules.{c_prefix-by}
 use Rattle.cweb_scan.proofs.FirstMatchTaken.{opens_by, c_opens-by}
 
@@ -18,5 +18,4 @@ c_opens_is includes u = c_opens-by in_c includes u
 
 pub macro_is : (includes : Bool) (u : List ℕ) → (begins (codes "\\") u && at_line_end (drop 1 u)) ≡ false
     → match_in Macro includes u ≡ c_match_by in_macro true u (c_rule false u)
-macro_is includes u h =
-    ap (λ v. if v then rule_match Skipped 1 else c_match in_macro true false u) h ∙ c_prefix-by in_macro true false u
+macro_is includes u h = grind (arith, h, c_prefix-by in_macro true false u)

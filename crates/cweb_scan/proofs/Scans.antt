@@ -117,8 +117,7 @@ refused old so halted all now lines is yields = grind (arith, tells_same, tells_
 
 -- The events so far only grow, also when the merger is halted afterwards.
 pub grows_then : (a b c : SoFar) → KeepsReported a b → Grows b c → Grows a c
-grows_then a b c reported grows =
-    record { reported = reported_then a b c reported grows.reported; lines = grows.lines; bytes = grows.bytes }
+grows_then a b c reported grows = grind (arith, reported_then a b c reported grows.reported, grows.lines, grows.bytes)
 
 pub grows_to : (a b c : SoFar) → c ≡ b → Grows a b → Grows a c
 grows_to a b c same grows = subst (λ (s : SoFar). Grows a s) (sym same) grows

@@ -1,15 +1,11 @@
 -- The step after a run of C text outside directives.
-use Rattle.cweb_scan.proofs.Common.{◌≡◌, ◌≤◌, ◌<◌, ℕ, ◌+◌, ◌*◌, List, length, drop, ap, sym, ◌∙◌, subst, arith, length-drop, too_many, ReaderModel, cost, TakesPrefix, TakesPlain, OpenItem, Between, HasItemRoom, ScanState, MakesProgress}
+use Rattle.cweb_scan.proofs.Common.{◌≡◌, ◌≤◌, ◌<◌, ℕ, ◌+◌, ◌*◌, List, length, drop, ap, subst, arith, length-drop, too_many, ReaderModel, cost, TakesPrefix, TakesPlain, Between, HasItemRoom, ScanState, MakesProgress}
 use Rattle.cweb_scan.proofs.InLineItemSteps.{at_item}
 use Rattle.cweb_scan.proofs.RestByLexemes.{takes_both}
 
 pub plain_taken : (n : ℕ) (u : List ℕ) (h v : ReaderModel) (new : ScanState) → v ≡ h → h.item ≡ Between
     → TakesPlain n u v.state new → TakesPrefix n u h (at_item v new)
-plain_taken n u h v new is none t =
-    let item : v.item ≡ Between = ap (λ (k : ReaderModel). k.item) is ∙ none in
-    subst (λ (k : ReaderModel). TakesPrefix n u k (at_item v new)) is
-    (subst (λ (i : OpenItem). TakesPrefix n u (record { state = v.state; item = i; begun = v.begun })
-    (record { state = new; item = i; begun = v.begun })) (sym item) (t.taken v.begun))
+plain_taken n u h v new is none t = grind (arith, is, none, t.taken v.begun)
 
 pub plain_all : (n : ℕ) (u : List ℕ) (h new : ReaderModel) → TakesPrefix n u h new → length (drop n u) ≡ 0
     → 1 ≤ length u → MakesProgress n u h new
