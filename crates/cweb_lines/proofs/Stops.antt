@@ -1,5 +1,5 @@
 -- The events before a stop.
-use Rattle.cweb_lines.proofs.Common.{rules, ◌≡◌, ◌++◌, ℕ, zero, suc, List, [], ◌∷◌, Option, Some, None, refl, sym, ◌∙◌, ap, subst, Bool, Place, WaitingEntry, World, SourceLine, NewSide, Thing, seek, raw, raws, reported, passed, Event, took, fault, at_place, NoMatch, sought, new_at, new_lines, things_over, things_above, things_in, ◌+◌, SoFar, ReadsNext, IsAtEnd, Stopped, TopStops, StopsFor, RefusesLine, Code, Stage, Seeking, Changing, Stack, OpenSource, merge, merge_end, merge_next, so_far_of, counters_of, OnlyTakes, MergeState, Result, Ok, Err, IfErr, OnErr, ReportsPrefix, Stop, Memory, arith}
+use Rattle.cweb_lines.proofs.Common.{rules, ◌≡◌, ◌++◌, ℕ, zero, suc, List, [], ◌∷◌, Option, Some, None, refl, sym, ◌∙◌, ap, subst, Bool, Place, WaitingEntry, World, SourceLine, NewSide, Thing, seek, raw, raws, reported, passed, Event, took, fault, at_place, NoMatch, sought, new_at, new_lines, things_over, things_above, things_in, SoFar, ReadsNext, IsAtEnd, Stopped, TopStops, StopsFor, RefusesLine, Code, Stage, Seeking, Changing, Stack, OpenSource, merge, merge_end, merge_next, so_far_of, counters_of, OnlyTakes, MergeState, Result, Ok, Err, IfErr, OnErr, ReportsPrefix, Stop, Memory, arith}
 use Rattle.cweb_lines.specs.declared.change.code.Code.TheVariants.{EndSide as end_side}
 use Rattle.cweb_lines.specs.surface.MergerCalls.{StopsThere}
 use Rattle.cweb_lines.proofs.Merges.{yields_nothing, merge_takes, state}

@@ -1,5 +1,5 @@
 -- A control code in a line doesn't depend on the bytes after the line.
-use Rattle.cweb_rules.proofs.Common.{◌≡◌, ◌≤◌, ℕ, ◌+◌, Bool, false, List, [], ◌∷◌, ◌++◌, Option, Some, None, length, drop, refl, ap, ◌∙◌, arith, if◌then◌else◌, codes, nat_lt, take-append-le, drop-append-le, length-drop, prefix_len-le-length, begins, is_gap, Effect, Named, Transliteration, Reach, reach_size, End, Closed, Cut, reach_of_name, opener_len, look_in_name, Letter, Occurrence, RuleMatch, rule_match, found_letter_match, opener_after, name_match, effect_match, code_match, AtLineEnd, opens_name, opens_effect, opens_code}
+use Rattle.cweb_rules.proofs.Common.{◌≡◌, ◌≤◌, ℕ, ◌+◌, Bool, false, List, [], ◌∷◌, ◌++◌, Option, Some, None, length, drop, refl, ap, ◌∙◌, arith, if◌then◌else◌, codes, nat_lt, take-append-le, drop-append-le, length-drop, prefix_len-le-length, begins, is_gap, Effect, Named, Transliteration, Reach, reach_size, End, Closed, Cut, reach_of_name, opener_len, look_in_name, Occurrence, RuleMatch, rule_match, found_letter_match, opener_after, name_match, effect_match, code_match, AtLineEnd, opens_name, opens_effect, opens_code}
 use Rattle.cweb_rules.specs.declared.effect.Effect.TheVariants as effect
 use Rattle.cweb_rules.proofs.Seams.{run_line}
 use Rattle.cweb_rules.proofs.Looks.{all_some, name-local, name-units}

@@ -1,5 +1,5 @@
 -- Lexemes that end a head.
-use Rattle.cweb_scan.proofs.Common.{◌≡◌, ◌≤◌, ℕ, Bool, true, false, List, [], ◌∷◌, ◌++◌, Option, Some, None, length, drop, take, refl, ap, sym, ◌∙◌, subst, arith, if◌then◌else◌, codes, Place, is_digit, in_tex, in_macro, match_in, c_match, code_match, effect_match, head_match_of, head_match, found_letter_match, section_match, tex_match, Kind, Section, Blanks, LineEnd, Comment, Defined, Identifier, RuleMatch, AtLineEnd, c_rule, c_match_by, Transliteration, Context, Definition, Effect, Rule, enter_in, item, stays_in_head, names_include, ReaderModel, MakesProgress, Between, lex, ScanState, drop_definition}
+use Rattle.cweb_scan.proofs.Common.{◌≡◌, ◌≤◌, ℕ, Bool, true, false, List, [], ◌∷◌, ◌++◌, Option, Some, None, length, drop, take, refl, ap, sym, ◌∙◌, subst, arith, if◌then◌else◌, codes, Place, is_digit, in_tex, in_macro, match_in, c_match, code_match, effect_match, head_match_of, head_match, found_letter_match, section_match, tex_match, Kind, Blanks, LineEnd, Comment, Defined, Identifier, RuleMatch, AtLineEnd, c_rule, c_match_by, Transliteration, Context, Definition, Effect, Rule, enter_in, item, stays_in_head, names_include, ReaderModel, MakesProgress, Between, lex, ScanState, drop_definition}
 use Rattle.cweb_rules.specs.Constants.{letter}
 use Rattle.cweb_rules.specs.declared.effect.Effect.TheVariants as effect
 use Rattle.cweb_rules.specs.declared.rule.Rule.TheVariants as rule

@@ -1,5 +1,5 @@
 -- Faults of names, one by one.
-use Rattle.cweb_store.proofs.Common.{◌≡◌, ℕ, zero, suc, ◌+◌, ◌<◌, Bool, true, false, cond, List, [], ◌∷◌, ◌++◌, Some, map, length, drop, refl, arith, append_assoc, slice_get, option_map, list_any, NameId, NameKind, NameFault, Name, id, spellings, fault_of_name, unresolved_fault, Resolution, filter, filter_map, if◌then◌else◌, prefix_at}
+use Rattle.cweb_store.proofs.Common.{◌≡◌, ℕ, zero, suc, ◌+◌, ◌<◌, Bool, false, List, [], ◌∷◌, ◌++◌, Some, map, length, drop, refl, arith, append_assoc, slice_get, option_map, list_any, NameId, NameKind, NameFault, Name, id, spellings, fault_of_name, unresolved_fault, Resolution, filter, filter_map, if◌then◌else◌, prefix_at}
 use Rattle.std.specs.List.{enumerate_from}
 
 -- The faults of resolutions that begin at occurrence i.
@@ -24,14 +24,7 @@ pub faults-step : (kind : NameKind) (fails : NameId → List ℕ → Bool) (ns :
     → new ≡ old ++ (if b then fault_of_name kind first ∷ [] else [])
     → new ++ faults_from (i + 1) kind fails (drop (i + 1) ns) ≡ old ++ faults_from i kind fails (drop i ns)
 faults-step kind fails ns i b first old new h test there step =
-    grind (arith, prefix_at ns i h, fails (id i), one, append_assoc old)
-  where
-    one : (v : Bool) (n : Name) (i : ℕ) (others : List (ℕ × Name))
-        → (if v then fault_of_name kind n.first ∷ [] else []) ++ map (λ (p : ℕ × Name).
-        fault_of_name kind p.1.first) others
-        ≡ map (λ (p : ℕ × Name). fault_of_name kind p.1.first) (cond v ((i, n) ∷ others) others)
-    one true n i others = refl
-    one false n i others = refl
+    grind (arith, prefix_at ns i h, fails (id i), append_assoc old)
 
 pub first-at : (ns : List Name) (i f : ℕ) → slice_get (map (λ (n : Name). n.first) ns) i ≡ Some f
     → option_map (λ (n : Name). n.first) (slice_get ns i) ≡ Some f

@@ -19,8 +19,7 @@ last-replaces : (all ts : List (List ℕ)) (bs : List ℕ) (byte i : ℕ) (found
     ≡ length bs → replaced_by byte (at_last all found) (replacements_at ts bs) ≡ at_last all (last_from byte found i bs)
 last-replaces all ts [] byte i found h size = refl
 last-replaces all [] (b ∷ bs) byte i found h size = absurd (let none : ⊥ = omega arith in none)
-last-replaces all (t ∷ ts) (b ∷ bs) byte i found h size =
-    grind (arith, drop-here, last-replaces all ts bs byte (i + 1))
+last-replaces all (t ∷ ts) (b ∷ bs) byte i found h size = grind (arith, drop-here, last-replaces all ts bs byte (i + 1))
 
 last-is : (ts : List (List ℕ)) (bs : List ℕ) (byte : ℕ) → length ts ≡ length bs
     → replacement (replacements_at ts bs) byte ≡ at_last ts (last_from byte None 0 bs)

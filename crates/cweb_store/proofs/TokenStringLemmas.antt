@@ -19,12 +19,7 @@ all-after x bytes [] h = tt
 all-after x bytes (t ∷ ts) h = (stored-after x bytes t h.0, all-after x bytes ts h.1)
 
 stored-before : (bytes x string : List ℕ) → IsSpanOf bytes string → IsSpanOf (bytes ++ x) string
-stored-before bytes x string s = (
-  s.0,
-  s.1 ++ x,
-  ap (λ b. b ++ x) s.2 ∙ append_assoc s.0 (string ++ s.1) x
-      ∙ ap (λ b. s.0 ++ b) (append_assoc string s.1 x),
-)
+stored-before bytes x string s = grind (arith, s.0, s.2, append_assoc s.0 (string ++ s.1) x, append_assoc string s.1 x)
 
 pub all-before : (bytes x : List ℕ) (ts : List (List ℕ)) → AreSpansOf bytes ts → AreSpansOf (bytes ++ x) ts
 all-before bytes x [] h = tt

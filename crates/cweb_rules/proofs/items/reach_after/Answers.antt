@@ -1,4 +1,4 @@
-use Rattle.cweb_rules.proofs.Common.{◌+◌, ◌<◌, ℕ, List, length, drop, ap, sym, ◌∙◌, arith, common_steps, length-drop, reach, look_of, reached, Open, Reached}
+use Rattle.cweb_rules.proofs.Common.{◌+◌, ℕ, List, drop, ap, sym, ◌∙◌, arith, common_steps, reach, look_of, reached, Open, Reached}
 use Rattle.cweb_rules.proofs.Lasts.{reach-fits}
 use Rattle.cweb_rules.proofs.PlainSpans.{reach_from}
 use Rattle.cweb_rules.proofs.Ranges.{later_by, later_by-add, reach_goes}
