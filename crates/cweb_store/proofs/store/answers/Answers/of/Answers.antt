@@ -1,4 +1,5 @@
-use Rattle.cweb_store.proofs.Common.{◌≡◌, refl, length, sym, ◌∙◌, ap, PartRange, has_part, list_any, is_of}
+use Rattle.cweb_store.proofs.Common.{◌≡◌, refl, length, sym, ◌∙◌, ap, PartRange, has_part, list_any, is_of, [], arith, Name, names, length-map}
+use Rattle.cweb_names.specs.inner.Known.{files_from}
 use Rattle.cweb_store.proofs.BoundLemmas.{resolutions-within}
 use Rattle.cweb_store.proofs.NameSetLemmas.{any-part}
 use Rattle.cweb_store.proofs.store.answers.Answers.of.Goals as goal
@@ -20,3 +21,23 @@ name_faults-requires-clause-some c = λ n.
     c.in_ok-links.ensures.some n
     ∙ ap (λ xs. list_any (λ (r : PartRange). is_of c.as_slice-2.result.now n r.kind) xs) c.ranges-2.ensures.ranges
     ∙ any-part c.as_slice-2.result.now n 0 c.args.parts.now ∙ ap (λ ss. has_part ss c.args.parts.now n) rs
+
+pub returns : goal.returns
+returns c =
+    let settled = c.as_slice.ensures.value ∙ c.in_ok-names.ensures.resolutions in
+    record {
+      settled = c.in_ok-names.ensures.resolutions;
+      forms = c.in_ok-files.ensures ∙ ap (λ rs. files_from rs [] 0 c.args.table.now) settled;
+      found = c.in_ok-faults.ensures.found;
+      defs = c.has_defs_code.ensures;
+      first_places = c.in_ok-faults.ensures.firsts;
+      few = omega (
+        arith,
+        ap length c.in_ok-faults.ensures.firsts,
+        length-map (names c.args.table.now) (λ (n : Name). n.first),
+        ap length c.in_ok-names.ensures.names,
+        c.in_ok-names.ensures.few_names,
+      );
+      small = c.in_ok-names.ensures.few;
+      linked = rw (c.as_slice-2.ensures.value, c.ranges-2.ensures.ranges) at c.in_ok-links.ensures;
+    }
