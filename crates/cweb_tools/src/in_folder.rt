@@ -64,8 +64,8 @@ pub fn tangle_in_folder<F: FileSystem + Drop, L: Sink>(
     };
     let mut shelf = FolderShelf::noting(fs, FileSet::new(alloc));
     match scan_web(alloc, &options, inputs, &mut shelf, log) {
-        Ok((merger, scanned)) => {
-            let web = Web::of(&merger, &scanned);
+        Ok(read) => {
+            let web = Web::of(&read);
             let mut bins = shelf.into_bins(alloc);
             let status = tangle_web(
                 alloc,

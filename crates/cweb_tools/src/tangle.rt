@@ -58,8 +58,8 @@ pub fn run_ctangle<S: Shelf, B: Bins, L: Sink>(
         Err(status) => return status,
     };
     match scan_web(alloc, &options, inputs, shelf, log) {
-        Ok((merger, scanned)) => {
-            let web = Web::of(&merger, &scanned);
+        Ok(read) => {
+            let web = Web::of(&read);
             tangle_web(
                 alloc,
                 options.shown(),

@@ -58,8 +58,8 @@ pub fn run_wdep<S: Shelf, W: Sink, L: Sink>(
         Err(stop) => return log_stop(log, stop, USAGE),
     };
     match scan_web(alloc, &options, inputs, shelf, log) {
-        Ok((merger, scanned)) => {
-            let web = Web::of(&merger, &scanned);
+        Ok(read) => {
+            let web = Web::of(&read);
             let targets = Targets::of(words);
             depend_web(alloc, options.main.as_str(), web, targets, out, log)
         }

@@ -24,17 +24,17 @@ pub(crate) struct Web<'a> {
 
 impl<'a> Web<'a> {
     /// The web of a merge that was scanned to its end.
-    pub(crate) fn of<S: Shelf>(merger: &'a Merger<S>, scanned: &'a Scanned) -> Web<'a>
-        requires { IsScanBelow (length (so_far merger.now).names) (scanned_model scanned.now) }
+    pub(crate) fn of<S: Shelf>(read: &'a (Merger<S>, Scanned)) -> Web<'a>
+        requires { IsScanBelow (length (so_far read.now.0).names) (scanned_model read.now.1) }
         ensures known { IsKnown result }
-        ensures names { files_of result ≡ (so_far merger.now).names }
-        ensures faults { result.faults.now ≡ (so_far merger.now).faults }
-        ensures scanned { result.scanned.now ≡ scanned.now }
+        ensures names { files_of result ≡ (so_far read.now.0).names }
+        ensures faults { result.faults.now ≡ (so_far read.now.0).faults }
+        ensures scanned { result.scanned.now ≡ read.now.1 }
     {
         Web {
-            names: merger.names(),
-            faults: merger.faults(),
-            scanned,
+            names: read.0.names(),
+            faults: read.0.faults(),
+            scanned: &read.1,
         }
     }
 
