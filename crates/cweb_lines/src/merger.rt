@@ -23,9 +23,14 @@ use cweb_input::{FileNames, SourceFault, Stack, Stop, TakenCounters, find_change
 use std::alloc::{AllocError, Global};
 
 /// A web that is being merged. Each call gets the shelf as the previous call left it.
-#[derive(Drop)]
 pub struct Merger<S: Shelf> {
     run: MergeState<S::R>,
+}
+
+impl<S: Shelf> Drop for Merger<S> {
+    fn drop(self) {
+        let Self { run: _ } = self;
+    }
 }
 
 impl<S: Shelf> Merger<S> {

@@ -18,7 +18,6 @@ use std::marker::Model;
 
 /// The lines so far: the scanner's state before the open item, and that item. `pending` has its source so far, and `places`
 /// those of the lines after its newlines.
-#[derive(Drop)]
 pub struct Reader {
     pub(crate) alloc: Global,
     pub(crate) scanner: Scanner,
@@ -26,6 +25,19 @@ pub struct Reader {
     pub(crate) pending: Vec<u8>,
     pub(crate) places: Vec<Place>,
     pub(crate) begun: bool,
+}
+
+impl Drop for Reader {
+    fn drop(self) {
+        let Self {
+            alloc: _,
+            scanner: _,
+            item: _,
+            pending: _,
+            places: _,
+            begun: _,
+        } = self;
+    }
 }
 
 impl Model for Reader {

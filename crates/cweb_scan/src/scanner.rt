@@ -23,7 +23,6 @@ use std::alloc::{AllocError, Global};
 use std::marker::Model;
 
 /// The result of the source so far, and the directive's state. `solid` is that state without the trailing layout.
-#[derive(Drop)]
 pub struct Scanner {
     pub(crate) alloc: Global,
     pub(crate) context: Context,
@@ -35,6 +34,23 @@ pub struct Scanner {
     pub(crate) folded: bool,
     pub(crate) directive: Directive,
     pub(crate) solid: Directive,
+}
+
+impl Drop for Scanner {
+    fn drop(self) {
+        let Self {
+            alloc: _,
+            context: _,
+            builder: _,
+            faults: _,
+            sections: _,
+            starred: _,
+            here: _,
+            folded: _,
+            directive: _,
+            solid: _,
+        } = self;
+    }
 }
 
 impl Model for Scanner {

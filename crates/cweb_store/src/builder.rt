@@ -17,12 +17,22 @@ use std::alloc::{AllocError, Global};
 use std::marker::Model;
 
 /// The contents of a web so far: occurrences, parts with tokens, and transliterations. A refused call may be repeated.
-#[derive(Drop)]
 pub struct Builder {
     alloc: Global,
     names: NameTable,
     parts: PartList,
     replacements: Replacements,
+}
+
+impl Drop for Builder {
+    fn drop(self) {
+        let Self {
+            alloc: _,
+            names: _,
+            parts: _,
+            replacements: _,
+        } = self;
+    }
 }
 
 impl Model for Builder {

@@ -26,7 +26,6 @@ use std::alloc::{AllocError, Global};
 use std::marker::Model;
 
 /// A finished web: the resolution of each occurrence, the parts of each name, and the faults.
-#[derive(Drop)]
 pub struct Store {
     parts: ClosedParts,
     // the strings of the occurrences, then those of the replacements
@@ -35,6 +34,19 @@ pub struct Store {
     replaced: Vec<u8>,
     last_places: Vec<Option<usize>>,
     answers: Answers,
+}
+
+impl Drop for Store {
+    fn drop(self) {
+        let Self {
+            parts: _,
+            strings: _,
+            forms: _,
+            replaced: _,
+            last_places: _,
+            answers: _,
+        } = self;
+    }
 }
 
 impl Model for Store {

@@ -114,7 +114,14 @@ impl Reader {
             return Ok(Scanner::new(self.alloc, place));
         }
         self.end_source()?;
-        let Reader { scanner, .. } = self;
+        let Reader {
+            alloc: _,
+            scanner,
+            item: _,
+            pending: _,
+            places: _,
+            begun: _,
+        } = self;
         Ok(scanner)
     }
 }

@@ -10,12 +10,22 @@ use cweb_store::Store;
 use std::alloc::AllocError;
 
 /// The result of a scan. Faults are in the order of their items. `starred` has the numbers of the starred sections.
-#[derive(Drop)]
 pub struct Scanned {
     pub store: Store,
     pub faults: Vec<ScanFault>,
     pub sections: u32,
     pub starred: Vec<u32>,
+}
+
+impl Drop for Scanned {
+    fn drop(self) {
+        let Self {
+            store: _,
+            faults: _,
+            sections: _,
+            starred: _,
+        } = self;
+    }
 }
 
 impl Scanner {
@@ -26,11 +36,16 @@ impl Scanner {
     {
         self.leave()?;
         let Scanner {
+            alloc: _,
+            context: _,
             builder,
             faults,
             sections,
             starred,
-            ..
+            here: _,
+            folded: _,
+            directive: _,
+            solid: _,
         } = self;
         let store = builder.finish()?;
         Ok(Scanned {
