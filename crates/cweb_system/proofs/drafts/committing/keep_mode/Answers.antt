@@ -6,6 +6,12 @@ use Rattle.cweb_system.specs.Tree.{IsFile, at}
 use Rattle.cweb_system.proofs.Files.{draft_set, set_back}
 use Rattle.cweb_system.proofs.drafts.committing.keep_mode.Goals as goal
 
+pub returns-in_err-set_draft_mode-in-Some-File : goal.returns-in_err-set_draft_mode-in-Some-File
+returns-in_err-set_draft_mode-in-Some-File g c = grind arith
+
+pub returns-in_ok-set_draft_mode-in-Some-File-clause-leaves : goal.returns-in_ok-set_draft_mode-in-Some-File-clause-leaves
+returns-in_ok-set_draft_mode-in-Some-File-clause-leaves g c = grind arith
+
 pub returns-in_ok-set_draft_mode-in-Some-File-clause-stays : goal.returns-in_ok-set_draft_mode-in-Some-File-clause-stays
 returns-in_ok-set_draft_mode-in-Some-File-clause-stays g c = λ some.
     draft_set g.F.FileSystem.key c.args.files.now.written.items c.args.draft.now c.in-Some-File.kept _ _
