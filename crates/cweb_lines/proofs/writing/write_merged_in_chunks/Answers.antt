@@ -102,12 +102,12 @@ returns-in_default-2 g c =
           let last = rw c.in_default-2.is at
           (c.in_ok-next_line.ensures.next seen (still_seen c.lines.invariant.quiet it)) in
           written_whole _ _ _ _ _ _ (c.lines.invariant.written seen it) _ _ last.0 last.1;
-      ended = search rules;
-      prefix = search rules;
-      stops = search rules;
-      fault = search rules;
+      ended = grind arith;
+      prefix = grind arith;
+      stops = grind arith;
+      fault = grind arith;
       reads = λ before. q.shelf;
-      blames = search rules;
+      blames = grind arith;
       known = stays_known (Ok tt) q;
       again = none_before _ c.lines.invariant.before;
     }

@@ -62,7 +62,7 @@ pub lines-preserved : goal.lines-preserved
 lines-preserved g c = record {
   quiet = reads_then (quiet g (goal.at.lines-preserved g c).In_ok-at) (reads_reported _
       c.in_ok-report-in-Some-change_code.ensures.only c.in_ok-report-in-Some-change_code.ensures.reported tt);
-  frame = search rules;
+  frame = grind arith;
   goes_on = c.lines.invariant.goes_on;
   replaces = λ seen it.
       let taken = rw c.in-Some.is at (c.in_ok-at.ensures.taken seen (still_seen c.lines.invariant.quiet it)) in
@@ -88,7 +88,7 @@ lines-preserved g c = record {
 pub lines-preserved-in-None : goal.lines-preserved-in-None
 lines-preserved-in-None g c = record {
   quiet = search (rules, reads_then, reads_set);
-  frame = search rules;
+  frame = grind arith;
   goes_on = c.in_ok-so_far-in-None.ensures.away.ended ∙ c.lines.invariant.goes_on;
   replaces = λ seen it.
       let taken = rw c.in-Some.is at (c.in_ok-at.ensures.taken seen (still_seen c.lines.invariant.quiet it)) in
@@ -111,4 +111,4 @@ returns-in_default-clause-replaced g c = λ seen it.
     let taken = rw c.in_default.is at (c.in_ok-at.ensures.taken seen (still_seen c.lines.invariant.quiet it)) in
     let counted = rw c.in_default.is at c.in_ok-at.ensures.takes.answers.counted in
     let raws_are = raws g (goal.at.returns-in_default-clause-replaced g c).In_ok-at seen.left in
-    search rules
+    grind arith

@@ -47,6 +47,16 @@ returns-clause-begins g c = λ seen it.
       whole = search rules;
     }
 
+pub returns-in_default-clause-stops : goal.returns-in_default-clause-stops
+returns-in_default-clause-stops g c = λ seen it. sym (rw c.in_default.is at (c.in_ok-web.ensures.found seen it))
+
+pub returns-in_default-2-clause-stops : goal.returns-in_default-2-clause-stops
+returns-in_default-2-clause-stops g c = λ seen it. (
+  (_, sym (rw c.in-Some.is at (c.in_ok-web.ensures.found seen it))),
+  sym (rw c.in_default-2.is at
+      (c.in_ok-change.ensures.found seen (ap (λ m. m.contents) c.in_ok-web.ensures.same ∙ it))),
+)
+
 pub returns-clause-readers : goal.returns-clause-readers
 returns-clause-readers g c = λ seen it.
     let found = names_found (found_as seen.left c.in-Some-2.change) in
@@ -57,7 +67,7 @@ returns-clause-readers g c = λ seen it.
     let top : IsReaderNamed seen.opened_as (opened_file_names c.open_change.new.names) (Some c.in_ok-web-2.web) =
     reader ∙ sym ((λ i. get_or (names i) (c.in_ok-web-2.ensures.level.0 i) [])) in
     record {
-      texts = search rules;
+      texts = grind arith;
       change = c.in_ok-change-2.ensures.named seen.opened_as (rw c.in-Some-2.is at
           (c.in_ok-change.ensures.opened seen (ap (λ m. m.contents) c.in_ok-web.ensures.same ∙ it)));
     }

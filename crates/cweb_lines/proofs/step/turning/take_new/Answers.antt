@@ -1,5 +1,5 @@
 use Rattle.cweb_input.proofs.Errors.{same_error}
-use Rattle.cweb_lines.proofs.Common.{rules, Some, ap, sym, ◌∙◌, change_code, counters_of, so_far_of, arith}
+use Rattle.cweb_lines.proofs.Common.{Some, ap, sym, ◌∙◌, change_code, counters_of, so_far_of, arith}
 use Rattle.cweb_lines.proofs.ReportsOnlyGrow.{took_faults, took_names}
 use Rattle.cweb_input.proofs.Found.{IfOk-map}
 use Rattle.cweb_lines.proofs.EmittedLinesAddUp.{yields_took}
@@ -18,8 +18,8 @@ returns-in_default g c =
     let took = c.in_ok-at.ensures.takes in
     let report = c.in_ok-report.ensures in
     record {
-      reads = search rules;
-      turns = search rules;
+      reads = grind arith;
+      turns = grind arith;
       yields = λ seen it.
           let taken = rw c.in_default.is at (c.in_ok-at.ensures.taken seen it) in
           let counted = rw c.in_default.is at took.answers.counted in
@@ -35,8 +35,8 @@ returns-in-None g c =
     let took = c.in_ok-at.ensures.takes in
     let obeys = c.emit_or_obey.ensures.obeys in
     record {
-      reads = search rules;
-      turns = search rules;
+      reads = grind arith;
+      turns = grind arith;
       yields = λ seen it.
           let taken = rw c.in-Some.is at (c.in_ok-at.ensures.taken seen it) in
           let test = ap change_code (sym c.deref.ensures.value) ∙ sym c.change_code.ensures ∙ c.in-None.is in
@@ -54,8 +54,8 @@ pub returns-then-eq : goal.returns-then-eq
 returns-then-eq g c =
     let took = c.in_ok-at.ensures.takes in
     record {
-      reads = search rules;
-      turns = search rules;
+      reads = grind arith;
+      turns = grind arith;
       yields = λ seen it.
           let taken = rw c.in-Some.is at (c.in_ok-at.ensures.taken seen it) in
           let test = ap change_code (sym c.deref.ensures.value) ∙ sym c.change_code.ensures ∙ c.in-Some-change_code.is
@@ -71,8 +71,8 @@ returns-in_ok-report-in-Some-change_code g c =
     let took = c.in_ok-at.ensures.takes in
     let report = c.in_ok-report-in-Some-change_code.ensures in
     record {
-      reads = search rules;
-      turns = search rules;
+      reads = grind arith;
+      turns = grind arith;
       yields = λ seen it.
           let taken = rw c.in-Some.is at (c.in_ok-at.ensures.taken seen it) in
           let test = ap change_code (sym c.deref.ensures.value) ∙ sym c.change_code.ensures

@@ -1,5 +1,5 @@
 use Rattle.cweb_input.proofs.Errors.{same_error}
-use Rattle.cweb_lines.proofs.Common.{rules, Some, ◌≡◌, counters_of, pending_of, so_far_of, CountsLine, events_to_come, events_after_line, begun_by, arith}
+use Rattle.cweb_lines.proofs.Common.{Some, ◌≡◌, counters_of, pending_of, so_far_of, CountsLine, events_to_come, events_after_line, begun_by, arith}
 use Rattle.cweb_lines.proofs.ReportsOnlyGrow.{took_faults, took_names}
 use Rattle.cweb_input.proofs.Found.{IfOk-map}
 use Rattle.cweb_lines.proofs.Stops.{stopped_by, stops_unreported, reported_stays, things_first, unreported}
@@ -50,7 +50,7 @@ returns-in_default-begun_at g c =
     let obeys = c.emit_or_obey.ensures.obeys in
     record {
       reads = reads_then took.reads (reads_obeyed obeys);
-      turns = search rules;
+      turns = grind arith;
       yields = λ seen it.
           let t = taken g (goal.at.returns-in_default-begun_at g c).In-Some seen it in
           IfOk-map c.emit_or_obey.result
@@ -68,7 +68,7 @@ returns-in_err-begin_change g c =
     let took = c.in_ok-at.ensures.takes in
     rw (same_error _ _ c.from_residual-in_err-begin_change.ensures.1) (record {
       reads = reads_then took.reads c.in_err-begin_change.ensures.reads;
-      turns = search rules;
+      turns = grind arith;
       yields = λ seen it. tt;
       stops = λ seen it.
           let t = taken g at.In-Some seen it in
@@ -91,7 +91,7 @@ returns g c =
     let change = c.in_ok-begin_change.ensures in
     record {
       reads = reads_then took.reads change.reads;
-      turns = search rules;
+      turns = grind arith;
       yields = λ seen it.
           let t = taken g at.In-Some seen it in
           began_yields seen.texts seen.left c.take_raw.new.run
@@ -107,15 +107,15 @@ returns-in_default g c =
     let last = c.take_end.ensures in
     record {
       reads = reads_then took.reads last.reads;
-      turns = search rules;
+      turns = grind arith;
       yields = λ seen it.
           let taken = rw c.in_default.is at (c.in_ok-at.ensures.taken seen it) in
           let counted = rw c.in_default.is at took.answers.counted in
           let yields = last.yields seen (still_seen took.reads it) in
-          search rules;
+          grind arith;
       stops = λ seen it.
           let taken = rw c.in_default.is at (c.in_ok-at.ensures.taken seen it) in
           let counted = rw c.in_default.is at took.answers.counted in
           let stops = last.stops seen (still_seen took.reads it) in
-          search rules;
+          grind arith;
     }
