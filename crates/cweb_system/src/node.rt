@@ -5,14 +5,14 @@ ghost use Rattle.cweb_system.specs.declared.node.FileFault.TheVariants.{Memory};
 use std::alloc::AllocError;
 
 /// The identity of a file: its device and inode number. It is the same under all names of the file.
-#[derive(Clone, Copy, Debug, PartialEq, Eq, PartialOrd, Ord)]
+#[derive(Clone, Copy, PartialEq, Eq, PartialOrd, Ord)]
 pub struct FileKey {
     pub device: u64,
     pub number: u64,
 }
 
 /// What lies under a path.
-#[derive(Clone, Copy, Debug)]
+#[derive(Clone, Copy)]
 pub enum Node {
     /// A regular file and its nine permission bits.
     File(FileKey, u32),
