@@ -49,18 +49,41 @@ fn compare<F: FileSystem + Drop>(
     Ok(())
 }
 
+fn compare_all<F: FileSystem + Drop>(
+    rt: &impl Abort,
+    both: &mut Both<F>,
+    top: &str,
+    seed: u64,
+) -> Result<(), AllocError> {
+    let paths = all_paths(both.alloc, top)?;
+    let compared = compare(rt, both, &paths, seed);
+    drop(paths);
+    compared
+}
+
+/// A sequence of random calls in a folder that is laid out.
+fn compare_in<F: FileSystem + Drop>(
+    rt: &(impl Abort + AllocGlobal),
+    mut real: F,
+    top: &str,
+    seed: u64,
+) -> Result<(), Fail> {
+    let memory = memory_like(rt.alloc(), &mut real, top)?;
+    let mut both = Both::new(rt.alloc(), real, memory);
+    let compared = compare_all(rt, &mut both, top, seed);
+    drop(both);
+    Ok(compared?)
+}
+
 /// A sequence of random calls in a new folder.
 fn compare_in_folder(
     host: &HostRuntime,
     rt: &(impl Abort + Env + Files + AllocGlobal),
     seed: u64,
 ) -> Result<(), Fail> {
-    let alloc = rt.alloc();
     let top = new_folder(rt)?;
-    let mut real = StdFolder::new(alloc, host);
-    let memory = memory_like(alloc, &mut real, top.as_str())?;
-    let paths = all_paths(alloc, top.as_str())?;
-    compare(rt, &mut Both::new(alloc, real, memory), &paths, seed)?;
+    let real = StdFolder::new(rt.alloc(), host);
+    compare_in(rt, real, top.as_str(), seed)?;
     remove_folder(rt, top.as_str())?;
     Ok(())
 }

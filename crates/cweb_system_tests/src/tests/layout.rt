@@ -86,9 +86,7 @@ fn add_refusals(
     Ok(())
 }
 
-/// What calls don't change.
-fn layout(alloc: Global, new_mode: u32, is_locked: bool) -> Result<Layout, AllocError> {
-    let mut layout = Layout::new(alloc, new_mode);
+fn add_facts(alloc: Global, layout: &mut Layout, is_locked: bool) -> Result<(), AllocError> {
     add_spellings(alloc, &mut layout.spellings)?;
     add_links(alloc, &mut layout.links)?;
     let refusals = &mut layout.refusals;
@@ -97,7 +95,19 @@ fn layout(alloc: Global, new_mode: u32, is_locked: bool) -> Result<Layout, Alloc
     if is_locked {
         add_refusals(alloc, refusals, IN_LOCKED, FileFault::Denied)?;
     }
-    Ok(layout)
+    Ok(())
+}
+
+/// What calls don't change.
+fn layout(alloc: Global, new_mode: u32, is_locked: bool) -> Result<Layout, AllocError> {
+    let mut layout = Layout::new(alloc, new_mode);
+    match add_facts(alloc, &mut layout, is_locked) {
+        Ok(()) => Ok(layout),
+        Err(error) => {
+            drop(layout);
+            Err(error)
+        }
+    }
 }
 
 /// Puts into memory what is at a path at first.
@@ -139,8 +149,13 @@ pub fn memory_like<F: FileSystem>(
     let mode = new_mode(real, path_in(alloc, top, NEW_FILE)?.as_str());
     let is_locked = is_refused(real, path_in(alloc, top, "locked/new")?.as_str());
     let mut memory = MemoryFolder::new(alloc, layout(alloc, mode, is_locked)?);
-    lay_out_memory(&mut memory)?;
-    Ok(memory.begin_run())
+    match lay_out_memory(&mut memory) {
+        Ok(()) => Ok(memory.begin_run()),
+        Err(fault) => {
+            drop(memory);
+            Err(fault.into())
+        }
+    }
 }
 
 /// Creates a folder under a free name.
