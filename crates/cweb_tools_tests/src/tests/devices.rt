@@ -90,6 +90,7 @@ fn check_left(rt: &(impl Abort + AllocGlobal), words: &[&str], device: Device, t
     for good in 0..CALLS {
         let run = left(rt.alloc(), words, device, good).expect(rt, "memory");
         last = next_left(rt, &run, device, last, &mut to_come);
+        drop(run);
     }
     holds(rt, to_come.next().is_none());
 }

@@ -36,6 +36,11 @@ fn has_faults(log: &[u8], name: &str, lines: usize) -> bool {
 
 fn check_faults(rt: &(impl Abort + AllocGlobal), name: &str, lines: usize) {
     let left = merged_lines(rt.alloc(), name, lines).expect(rt, "memory");
+    check_left(rt, &left, name, lines);
+    drop(left);
+}
+
+fn check_left(rt: &impl Abort, left: &Merge, name: &str, lines: usize) {
     holds(rt, left.status == 1);
     holds(rt, has_faults(left.log.bytes(), name, lines));
     // about 40 bytes per line, and 4,096 per write

@@ -75,16 +75,29 @@ impl Merge {
         }
     }
 
-    /// Runs over the devices. Failures are counted from here on.
     fn run(&mut self, alloc: Global, program: Program, words: &[&str], inputs: Option<&str>) {
+        match program {
+            Program::Wmerge => self.run_wmerge(alloc, words, inputs),
+            Program::Wdep => self.run_wdep(alloc, words, inputs),
+        }
+    }
+
+    /// Runs over the devices. Failures are counted from here on.
+    fn run_wmerge(&mut self, alloc: Global, words: &[&str], inputs: Option<&str>) {
         self.shelf.failed = 0;
         self.out.failed = 0;
         self.log.failed = 0;
         let (shelf, out, log) = (&mut self.shelf, &mut self.out, &mut self.log);
-        self.status = match program {
-            Program::Wmerge => run_wmerge(alloc, words, inputs, shelf, out, log),
-            Program::Wdep => run_wdep(alloc, words, inputs, shelf, out, log),
-        };
+        self.status = run_wmerge(alloc, words, inputs, shelf, out, log);
+    }
+
+    /// Runs over the devices. Failures are counted from here on.
+    fn run_wdep(&mut self, alloc: Global, words: &[&str], inputs: Option<&str>) {
+        self.shelf.failed = 0;
+        self.out.failed = 0;
+        self.log.failed = 0;
+        let (shelf, out, log) = (&mut self.shelf, &mut self.out, &mut self.log);
+        self.status = run_wdep(alloc, words, inputs, shelf, out, log);
     }
 
     fn logs(&self, lines: &str) -> bool {
@@ -119,6 +132,7 @@ fn check_left(rt: &impl Abort, left: &Merge, run: &Run) {
 pub fn check_run(rt: &(impl Abort + AllocGlobal), program: Program, run: &Run) {
     let left = ran(rt.alloc(), program, run, Failing::Nothing).expect(rt, "memory");
     check_left(rt, &left, run);
+    drop(left);
 }
 
 pub fn check_runs(rt: &(impl Abort + AllocGlobal), program: Program, runs: &[Run]) {
@@ -131,6 +145,7 @@ pub fn check_runs(rt: &(impl Abort + AllocGlobal), program: Program, runs: &[Run
 pub fn check_refused(rt: &(impl Abort + AllocGlobal), program: Program, run: &Run) {
     if let Ok(left) = ran(rt.alloc(), program, run, Failing::Nothing) {
         check_left_refused(rt, &left, run);
+        drop(left);
     }
 }
 
@@ -154,8 +169,9 @@ pub fn check_read(
     good: u64,
 ) -> Option<bool> {
     let left = ran(rt.alloc(), program, run, Failing::Read(good)).expect(rt, "memory");
-    holds(rt, left.status == 1);
-    check_left_of_read(rt, &left, run, lines)
+    let failed = check_left_of_read(rt, &left, run, lines);
+    drop(left);
+    failed
 }
 
 fn check_left_of_read(
@@ -164,6 +180,7 @@ fn check_left_of_read(
     run: &Run,
     lines: (&str, &str),
 ) -> Option<bool> {
+    holds(rt, left.status == 1);
     if left.shelf.failed == 0 {
         check_left(rt, left, run);
         return None;
@@ -182,7 +199,9 @@ pub fn check_write(
     good: u64,
 ) -> bool {
     let left = ran(rt.alloc(), program, run, Failing::Write(good)).expect(rt, "memory");
-    check_left_of_write(rt, &left, run)
+    let failed = check_left_of_write(rt, &left, run);
+    drop(left);
+    failed
 }
 
 fn check_left_of_write(rt: &impl Abort, left: &Merge, run: &Run) -> bool {
@@ -202,6 +221,7 @@ pub fn check_log_fails(rt: &(impl Abort + AllocGlobal), program: Program, run: &
     for good in 0..10 {
         let left = ran(rt.alloc(), program, run, Failing::Log(good)).expect(rt, "memory");
         check_left_of_log(rt, program, &left, run);
+        drop(left);
     }
 }
 

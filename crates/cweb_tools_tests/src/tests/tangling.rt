@@ -93,6 +93,7 @@ fn check_left(rt: &impl Abort, run: &Tangle, text: &str) {
 pub fn check_run(rt: &(impl Abort + AllocGlobal), run: &Run) {
     let left = tangled(rt.alloc(), run.0, run.1).expect(rt, "memory");
     check_left(rt, &left, run.2);
+    drop(left);
 }
 
 pub fn check_runs(rt: &(impl Abort + AllocGlobal), runs: &[Run]) {

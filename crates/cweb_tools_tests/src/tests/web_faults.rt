@@ -52,10 +52,12 @@ fn begun(alloc: Global) -> Result<Merger<MemoryShelf>, Stop> {
 fn lines_of_scan_faults(rt: HostRuntime) {
     let merger = begun(rt.alloc()).expect(&rt, "a web");
     check_lines(&rt, merger.names());
+    drop(merger);
 }
 
 #[test]
 fn lines_of_source_faults(rt: HostRuntime) {
     let merger = begun(rt.alloc()).expect(&rt, "a web");
     check_source_lines(&rt, merger.names());
+    drop(merger);
 }
