@@ -92,17 +92,18 @@ impl Case for ShownStore<'_> {
     }
 }
 
-fn example_shows(rt: &impl Abort, alloc: Global, example: &str, text: &str) -> Result<(), Fail> {
+// The store of each example has the expected names and parts.
+fn examples_show(rt: &impl Abort, alloc: Global, examples: &[(&str, &str)]) -> Result<(), Fail> {
     let aspect = Aspect::Names;
-    check(
-        rt,
-        alloc,
-        &ShownStore {
-            example,
+    for (example, text) in examples {
+        let case = ShownStore {
+            example: *example,
             aspect,
-            text,
-        },
-    )
+            text: *text,
+        };
+        check(rt, alloc, &case)?;
+    }
+    Ok(())
 }
 
 fn counts(rt: &impl Abort, alloc: Global, example: &str, text: &str) -> Result<(), Fail> {

@@ -45,52 +45,33 @@ fn abbreviations(rt: HostRuntime) -> Result<(), Fail> {
 }
 
 #[test]
-fn an_abbreviation_of_two_names(rt: HostRuntime) -> Result<(), Fail> {
-    example_shows(
-        &rt,
-        rt.alloc(),
-        "prefix Glob; full Global variables; full Global types",
-        "Global variables; Global types; program; macros; files; faults ambiguous 0",
-    )
-}
-
-// The part's own name is unresolved, and its tokens still use a name.
-#[test]
-fn an_abbreviation_of_no_name(rt: HostRuntime) -> Result<(), Fail> {
-    example_shows(
-        &rt,
-        rt.alloc(),
-        "prefix Zz; part 0; full B; name 1; close",
-        "B; program; macros; files; faults never given 0 missing 1",
-    )
-}
-
-#[test]
-fn a_prefix_of_another_name(rt: HostRuntime) -> Result<(), Fail> {
-    example_shows(
-        &rt,
-        rt.alloc(),
-        "full ab; part 0; word x; close; full abc; part 1; word y; close",
-        "ab: x; abc: y; program; macros; files; faults prefix 0",
-    )
-}
-
-#[test]
-fn an_empty_name_and_an_empty_prefix(rt: HostRuntime) -> Result<(), Fail> {
-    example_shows(
-        &rt,
-        rt.alloc(),
-        "full ; part 0; word ; close; prefix ; part 1; word y; close",
-        ": : y; program; macros; files; faults",
-    )
-}
-
-#[test]
-fn files_and_what_they_lack(rt: HostRuntime) -> Result<(), Fail> {
-    example_shows(
-        &rt,
-        rt.alloc(),
-        "full a.h; file b.h; file-prefix a; file b.h; part 2; word a; close",
-        "a.h: a; b.h; program; macros; files 1 0; faults missing 1",
-    )
+fn names_and_their_faults(rt: HostRuntime) -> Result<(), Fail> {
+    const EXAMPLES: &[(&str, &str)] = &[
+        // an abbreviation of two names
+        (
+            "prefix Glob; full Global variables; full Global types",
+            "Global variables; Global types; program; macros; files; faults ambiguous 0",
+        ),
+        // an abbreviation of no name: the part's own name is unresolved, and its tokens still use a name
+        (
+            "prefix Zz; part 0; full B; name 1; close",
+            "B; program; macros; files; faults never given 0 missing 1",
+        ),
+        // a prefix of another name
+        (
+            "full ab; part 0; word x; close; full abc; part 1; word y; close",
+            "ab: x; abc: y; program; macros; files; faults prefix 0",
+        ),
+        // an empty name and an empty prefix
+        (
+            "full ; part 0; word ; close; prefix ; part 1; word y; close",
+            ": : y; program; macros; files; faults",
+        ),
+        // files and what they lack
+        (
+            "full a.h; file b.h; file-prefix a; file b.h; part 2; word a; close",
+            "a.h: a; b.h; program; macros; files 1 0; faults missing 1",
+        ),
+    ];
+    examples_show(&rt, rt.alloc(), EXAMPLES)
 }
