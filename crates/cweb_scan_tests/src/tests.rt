@@ -50,3 +50,14 @@ fn check_each(rt: &(impl AllocGlobal + Abort), examples: &[(&[u8], &str)]) -> Re
     }
     Ok(())
 }
+
+/// Webs of one file, and the report on each.
+type Table = &'static [(&'static [u8], &'static str)];
+
+/// Checks the report on each web of each table.
+fn check_all(rt: &(impl AllocGlobal + Abort), tables: &[Table]) -> Result<(), Fail> {
+    for examples in tables {
+        check_each(rt, *examples)?;
+    }
+    Ok(())
+}

@@ -38,11 +38,6 @@ const COMMENTS: &[(&[u8], &str)] = &[
     (b"@ @c a/", "[program] head:1 at:1 w:a p:/ tail:1 "),
 ];
 
-#[test]
-fn comments(rt: HostRuntime) -> Result<(), Fail> {
-    check_each(&rt, COMMENTS)
-}
-
 const IDENTIFIERS_AND_NUMBERS: &[(&[u8], &str)] = &[
     (
         b"@ @c a_$1\xff\x80 1a.2e+3-4 .5 .x 0x1P-2f 1e+-3 1..2",
@@ -53,11 +48,6 @@ const IDENTIFIERS_AND_NUMBERS: &[(&[u8], &str)] = &[
         "[program] head:1 at:1 w:a w:b w:c tail:1 ",
     ),
 ];
-
-#[test]
-fn identifiers_and_numbers(rt: HostRuntime) -> Result<(), Fail> {
-    check_each(&rt, IDENTIFIERS_AND_NUMBERS)
-}
 
 const PUNCTUATORS: &[(&[u8], &str)] = &[
     (
@@ -71,6 +61,7 @@ const PUNCTUATORS: &[(&[u8], &str)] = &[
 ];
 
 #[test]
-fn punctuators(rt: HostRuntime) -> Result<(), Fail> {
-    check_each(&rt, PUNCTUATORS)
+fn comments_words_and_punctuators(rt: HostRuntime) -> Result<(), Fail> {
+    const TABLES: &[Table] = &[COMMENTS, IDENTIFIERS_AND_NUMBERS, PUNCTUATORS];
+    check_all(&rt, TABLES)
 }

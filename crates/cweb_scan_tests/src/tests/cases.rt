@@ -1,4 +1,4 @@
-// Test cases over a scan. Only functions here own a merger or a scan's result, since that slows verification.
+// Test cases over a scan. Only functions here own a merger or a scan's result.
 use super::*;
 use cweb_lines::{MemoryShelf, Shelf, Stop};
 
@@ -38,5 +38,8 @@ fn check_scan<E: From<Stop>, C: Case<E>>(
     let made = scan(rt.alloc(), merger, shelf);
     holds(rt, shelf.failures() == 0);
     holds(rt, merger.stopped() == made.as_ref().err().copied());
-    case.look(rt, &made?)
+    let made = made?;
+    let looked = case.look(rt, &made);
+    drop(made);
+    looked
 }

@@ -26,11 +26,6 @@ const CODES_OF_C_TEXT: &[(&[u8], &str)] = &[
     ),
 ];
 
-#[test]
-fn codes_of_c_text(rt: HostRuntime) -> Result<(), Fail> {
-    check_each(&rt, CODES_OF_C_TEXT)
-}
-
 const CONTROL_TEXTS: &[(&[u8], &str)] = &[
     (
         b"@ @c @^a@>b@.c@>@:d@>@Te@>@qf@>g",
@@ -59,11 +54,6 @@ const CONTROL_TEXTS: &[(&[u8], &str)] = &[
         "[program] head:1 at:1 w:b tail:1 ControlTextDidNotEnd 1 ",
     ),
 ];
-
-#[test]
-fn control_texts(rt: HostRuntime) -> Result<(), Fail> {
-    check_each(&rt, CONTROL_TEXTS)
-}
 
 const CHARACTER_CONSTANTS: &[(&[u8], &str)] = &[
     (
@@ -111,6 +101,7 @@ const CHARACTER_CONSTANTS: &[(&[u8], &str)] = &[
 ];
 
 #[test]
-fn character_constants(rt: HostRuntime) -> Result<(), Fail> {
-    check_each(&rt, CHARACTER_CONSTANTS)
+fn codes_and_constants(rt: HostRuntime) -> Result<(), Fail> {
+    const TABLES: &[Table] = &[CODES_OF_C_TEXT, CONTROL_TEXTS, CHARACTER_CONSTANTS];
+    check_all(&rt, TABLES)
 }

@@ -49,11 +49,6 @@ const WHERE_DIRECTIVES_BEGIN_AND_END: &[(&[u8], &str)] = &[
     ),
 ];
 
-#[test]
-fn where_directives_begin_and_end(rt: HostRuntime) -> Result<(), Fail> {
-    check_each(&rt, WHERE_DIRECTIVES_BEGIN_AND_END)
-}
-
 const INCLUDED_NAMES: &[(&[u8], &str)] = &[
     (
         b"@ @c\n#include <a/b.h> // x\n# include<c>\n#include \"d\"",
@@ -75,6 +70,7 @@ const INCLUDED_NAMES: &[(&[u8], &str)] = &[
 ];
 
 #[test]
-fn included_names(rt: HostRuntime) -> Result<(), Fail> {
-    check_each(&rt, INCLUDED_NAMES)
+fn directives(rt: HostRuntime) -> Result<(), Fail> {
+    const TABLES: &[Table] = &[WHERE_DIRECTIVES_BEGIN_AND_END, INCLUDED_NAMES];
+    check_all(&rt, TABLES)
 }

@@ -34,11 +34,6 @@ const WEBS_THAT_END_IN_AN_ITEM: &[(&[u8], &str)] = &[
     (b"@q", "ControlTextDidNotEnd 1 "),
 ];
 
-#[test]
-fn webs_that_end_in_an_item(rt: HostRuntime) -> Result<(), Fail> {
-    check_each(&rt, WEBS_THAT_END_IN_AN_ITEM)
-}
-
 // An `@` at the end of a line begins a section, except in literals.
 const LAST_AT_OF_A_LINE: &[(&[u8], &str)] = &[
     (b"x@\n@c y", "[program] head:1 at:2 w:y tail:1 "),
@@ -76,6 +71,7 @@ const LAST_AT_OF_A_LINE: &[(&[u8], &str)] = &[
 ];
 
 #[test]
-fn last_at_of_a_line(rt: HostRuntime) -> Result<(), Fail> {
-    check_each(&rt, LAST_AT_OF_A_LINE)
+fn ends_of_webs_and_lines(rt: HostRuntime) -> Result<(), Fail> {
+    const TABLES: &[Table] = &[WEBS_THAT_END_IN_AN_ITEM, LAST_AT_OF_A_LINE];
+    check_all(&rt, TABLES)
 }

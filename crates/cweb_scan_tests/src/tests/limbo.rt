@@ -12,11 +12,6 @@ const CODES_BEFORE_THE_FIRST_SECTION: &[(&[u8], &str)] = &[
     ),
 ];
 
-#[test]
-fn codes_before_the_first_section(rt: HostRuntime) -> Result<(), Fail> {
-    check_each(&rt, CODES_BEFORE_THE_FIRST_SECTION)
-}
-
 const LETTERS: &[(&[u8], &str)] = &[
     (b"@l 80 a", "80=a "),
     (b"@L FF\tB_9.x", "ff=B_9 "),
@@ -47,11 +42,6 @@ const LETTERS: &[(&[u8], &str)] = &[
     ),
 ];
 
-#[test]
-fn letters(rt: HostRuntime) -> Result<(), Fail> {
-    check_each(&rt, LETTERS)
-}
-
 const CODES_OF_TEX_PARTS: &[(&[u8], &str)] = &[
     (
         b"@ @h @& @= a @' @^ @. @: @t @q @l @@ @f @s @z @> @L @H",
@@ -67,6 +57,7 @@ const CODES_OF_TEX_PARTS: &[(&[u8], &str)] = &[
 ];
 
 #[test]
-fn codes_of_tex_parts(rt: HostRuntime) -> Result<(), Fail> {
-    check_each(&rt, CODES_OF_TEX_PARTS)
+fn limbo_and_tex_parts(rt: HostRuntime) -> Result<(), Fail> {
+    const TABLES: &[Table] = &[CODES_BEFORE_THE_FIRST_SECTION, LETTERS, CODES_OF_TEX_PARTS];
+    check_all(&rt, TABLES)
 }

@@ -47,11 +47,6 @@ const LITERALS: &[(&[u8], &str)] = &[
     ),
 ];
 
-#[test]
-fn literals(rt: HostRuntime) -> Result<(), Fail> {
-    check_each(&rt, LITERALS)
-}
-
 const RAW_LITERALS: &[(&[u8], &str)] = &[
     (
         b"@ @c R\"(a)\" u8R\"x(b)\")x\" LR\"()\" lR\"()\"",
@@ -99,6 +94,7 @@ const RAW_LITERALS: &[(&[u8], &str)] = &[
 ];
 
 #[test]
-fn raw_literals(rt: HostRuntime) -> Result<(), Fail> {
-    check_each(&rt, RAW_LITERALS)
+fn literals_and_raw_literals(rt: HostRuntime) -> Result<(), Fail> {
+    const TABLES: &[Table] = &[LITERALS, RAW_LITERALS];
+    check_all(&rt, TABLES)
 }

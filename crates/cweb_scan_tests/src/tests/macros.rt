@@ -24,11 +24,6 @@ const DEFINITIONS_AND_MACROS: &[(&[u8], &str)] = &[
     (b"@ @d\n/* x\n@ ", "CommentDidNotEnd 2 DefinitionDropped 1 "),
 ];
 
-#[test]
-fn definitions_and_macros(rt: HostRuntime) -> Result<(), Fail> {
-    check_each(&rt, DEFINITIONS_AND_MACROS)
-}
-
 const CODES_OF_MACROS: &[(&[u8], &str)] = &[
     (
         b"@ @d m 1 @f x @c y",
@@ -58,6 +53,7 @@ const CODES_OF_MACROS: &[(&[u8], &str)] = &[
 ];
 
 #[test]
-fn codes_of_macros(rt: HostRuntime) -> Result<(), Fail> {
-    check_each(&rt, CODES_OF_MACROS)
+fn definitions_and_macros(rt: HostRuntime) -> Result<(), Fail> {
+    const TABLES: &[Table] = &[DEFINITIONS_AND_MACROS, CODES_OF_MACROS];
+    check_all(&rt, TABLES)
 }

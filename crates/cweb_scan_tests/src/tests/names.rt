@@ -30,11 +30,6 @@ const OPENERS_AFTER_NAMES: &[(&[u8], &str)] = &[
     ),
 ];
 
-#[test]
-fn openers_after_names(rt: HostRuntime) -> Result<(), Fail> {
-    check_each(&rt, OPENERS_AFTER_NAMES)
-}
-
 const SPELLING: &[(&[u8], &str)] = &[
     (
         b"@ @<  a \t b\x0bc\n d @>=x",
@@ -65,11 +60,6 @@ const SPELLING: &[(&[u8], &str)] = &[
         "[<abc>] head:1 at:1 w:x <?> at:1 tail:1 NeverFull <a > ",
     ),
 ];
-
-#[test]
-fn spelling(rt: HostRuntime) -> Result<(), Fail> {
-    check_each(&rt, SPELLING)
-}
 
 const NAMES_THAT_DID_NOT_END: &[(&[u8], &str)] = &[
     (
@@ -104,6 +94,7 @@ const NAMES_THAT_DID_NOT_END: &[(&[u8], &str)] = &[
 ];
 
 #[test]
-fn names_that_did_not_end(rt: HostRuntime) -> Result<(), Fail> {
-    check_each(&rt, NAMES_THAT_DID_NOT_END)
+fn names(rt: HostRuntime) -> Result<(), Fail> {
+    const TABLES: &[Table] = &[OPENERS_AFTER_NAMES, SPELLING, NAMES_THAT_DID_NOT_END];
+    check_all(&rt, TABLES)
 }

@@ -38,11 +38,6 @@ const LEXEMES_BY_FIRST_BYTE: &[(&[u8], &str)] = &[
     ),
 ];
 
-#[test]
-fn lexemes_by_first_byte(rt: HostRuntime) -> Result<(), Fail> {
-    check_each(&rt, LEXEMES_BY_FIRST_BYTE)
-}
-
 const DIRECTIVE_BODIES: &[(&[u8], &str)] = &[
     // blanks emit one Blank; words, numbers and punctuators are tokens
     (
@@ -67,6 +62,7 @@ const DIRECTIVE_BODIES: &[(&[u8], &str)] = &[
 ];
 
 #[test]
-fn directive_bodies(rt: HostRuntime) -> Result<(), Fail> {
-    check_each(&rt, DIRECTIVE_BODIES)
+fn lexemes_and_directives(rt: HostRuntime) -> Result<(), Fail> {
+    const TABLES: &[Table] = &[LEXEMES_BY_FIRST_BYTE, DIRECTIVE_BODIES];
+    check_all(&rt, TABLES)
 }

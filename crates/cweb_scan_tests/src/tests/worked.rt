@@ -30,11 +30,6 @@ const PARTS_AND_NAMES: &[(&[u8], &str)] = &[
     (b"@ @(@>= x\n", "[<>] head:1 at:1 w:x tail:1 file <> "),
 ];
 
-#[test]
-fn parts_and_names(rt: HostRuntime) -> Result<(), Fail> {
-    check_each(&rt, PARTS_AND_NAMES)
-}
-
 const OPERATORS_MACROS_AND_DIRECTIVES: &[(&[u8], &str)] = &[
     (
         b"@ @c\nx= -1; a*-b; y=0xe + 1; q=a/@<X@>;\n@ @<X@>= b\n",
@@ -74,11 +69,6 @@ const OPERATORS_MACROS_AND_DIRECTIVES: &[(&[u8], &str)] = &[
     ),
 ];
 
-#[test]
-fn operators_macros_and_directives(rt: HostRuntime) -> Result<(), Fail> {
-    check_each(&rt, OPERATORS_MACROS_AND_DIRECTIVES)
-}
-
 // Each kind of fault, in the order of the items.
 const FAULTS_IN_THE_ORDER_OF_THEIR_ITEMS: &[(&[u8], &str)] = &[
     (
@@ -97,6 +87,11 @@ const FAULTS_IN_THE_ORDER_OF_THEIR_ITEMS: &[(&[u8], &str)] = &[
 ];
 
 #[test]
-fn faults_in_the_order_of_their_items(rt: HostRuntime) -> Result<(), Fail> {
-    check_each(&rt, FAULTS_IN_THE_ORDER_OF_THEIR_ITEMS)
+fn worked_examples(rt: HostRuntime) -> Result<(), Fail> {
+    const TABLES: &[Table] = &[
+        PARTS_AND_NAMES,
+        OPERATORS_MACROS_AND_DIRECTIVES,
+        FAULTS_IN_THE_ORDER_OF_THEIR_ITEMS,
+    ];
+    check_all(&rt, TABLES)
 }
