@@ -1,4 +1,4 @@
-// Bins of a real folder. Only one function owns the path and one the bins, since owning one makes verification slow.
+// Bins of a real folder. Only one function owns the path and one the bins.
 use super::puts::*;
 use super::runs::tangle_twice;
 use super::wanted::holds;
@@ -66,26 +66,19 @@ impl Step {
 }
 
 /// Runs steps with bins of their own, while the bins of the earlier steps still exist.
-fn run_after(
+fn run_after<B: Bins + Drop>(
     host: &HostRuntime,
     rt: &(impl Abort + Env + Files<File: LockableFile> + AllocGlobal),
+    bins: (B, B),
     folder: &str,
     before: &[Step],
     steps: &[Step],
 ) {
-    let mut first = new_bins(host);
+    let (mut first, mut second) = bins;
     run(host, rt, &mut first, folder, before);
-    run_once(host, rt, folder, steps);
-}
-
-fn run_once(
-    host: &HostRuntime,
-    rt: &(impl Abort + Env + Files<File: LockableFile> + AllocGlobal),
-    folder: &str,
-    steps: &[Step],
-) {
-    let mut bins = new_bins(host);
-    run(host, rt, &mut bins, folder, steps);
+    run(host, rt, &mut second, folder, steps);
+    drop(second);
+    drop(first);
 }
 
 fn new_bins(host: &HostRuntime) -> FolderBins<StdFolder<&HostRuntime>> {
@@ -113,7 +106,8 @@ fn check(
     steps: &[Step],
 ) {
     let folder = new_folder(rt);
-    run_after(host, rt, folder.as_str(), before, steps);
+    let bins = (new_bins(host), new_bins(host));
+    run_after(host, rt, bins, folder.as_str(), before, steps);
     fs::remove_dir_all(rt, folder.as_str()).expect(rt, "the folder");
 }
 

@@ -193,8 +193,13 @@ pub fn put_what_was_read(
     let mut shelf = noting_shelf(host);
     holds(rt, opens(rt, &mut shelf, path.as_str()));
     let mut bins = shelf.into_bins(host.alloc());
-    check_put(rt, &mut bins, folder, "a.w", b"lost", Some(b"x"));
-    check_put(rt, &mut bins, folder, "b.w", b"y", Some(b"y"));
+    put_over_read(rt, &mut bins, folder);
+    drop(bins);
+}
+
+fn put_over_read<B: Bins>(rt: &(impl Abort + Files + AllocGlobal), bins: &mut B, folder: &str) {
+    check_put(rt, bins, folder, "a.w", b"lost", Some(b"x"));
+    check_put(rt, bins, folder, "b.w", b"y", Some(b"y"));
     holds(rt, bins.failures() == 1);
 }
 
@@ -210,6 +215,7 @@ pub fn open_what_is_closed(
     let may_read = fs::open(rt, path.as_str()).is_ok();
     let mut shelf = noting_shelf(host);
     opens_if(rt, &mut shelf, path.as_str(), may_read);
+    drop(shelf);
 }
 
 fn opens_if<S: Shelf>(rt: &impl Abort, shelf: &mut S, path: &str, may_read: bool) {
