@@ -194,7 +194,6 @@ pub fn put_what_was_read(
     holds(rt, opens(rt, &mut shelf, path.as_str()));
     let mut bins = shelf.into_bins(host.alloc());
     put_over_read(rt, &mut bins, folder);
-    drop(bins);
 }
 
 fn put_over_read<B: Bins>(rt: &(impl Abort + Files + AllocGlobal), bins: &mut B, folder: &str) {
@@ -215,7 +214,6 @@ pub fn open_what_is_closed(
     let may_read = fs::open(rt, path.as_str()).is_ok();
     let mut shelf = noting_shelf(host);
     opens_if(rt, &mut shelf, path.as_str(), may_read);
-    drop(shelf);
 }
 
 fn opens_if<S: Shelf>(rt: &impl Abort, shelf: &mut S, path: &str, may_read: bool) {
