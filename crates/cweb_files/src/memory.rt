@@ -1,7 +1,6 @@
 // A shelf and a sink in memory. Both are observable.
-ghost use Rattle.std.specs.Prelude.{◌≡◌, ◌≤◌, ◌+◌, ◌^◌, ◌<◌, ◌-◌, [], ◌++◌, length, take, true};
-ghost use Rattle.std.specs.Prelude.{Some, vec_len, vec_capacity, string_bytes, IfOk, IfSome, OnOk};
-ghost use Rattle.std.specs.Prelude.{OnErr, IsOk, None, if◌then◌else◌};
+ghost use Rattle.std.specs.Prelude.{◌≡◌, ◌≤◌, ◌+◌, ◌^◌, ◌<◌, ◌-◌, [], ◌++◌, length, take};
+ghost use Rattle.std.specs.Prelude.{None, Some, IfOk, IfSome, IsOk, OnErr, OnOk, if◌then◌else◌};
 ghost use Rattle.std.specs.Str.{bytes_eq};
 ghost use Rattle.cweb_files.specs.surface.Writes.{CountsFailure};
 

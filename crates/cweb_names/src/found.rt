@@ -1,5 +1,4 @@
 // The names that begin with a prefix, in a sorted map.
-
 ghost use Rattle.std.specs.Prelude.{◌≡◌, unwrap_or, IfOk, OnErr};
 ghost use Rattle.std.specs.BTreeMap.{insert_entry, is_at, keys};
 ghost use Rattle.std.specs.List.Sorted.{IsStrictlySortedBy};

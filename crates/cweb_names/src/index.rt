@@ -1,5 +1,4 @@
 // A hash table of names, which saves most looks into the sorted map.
-
 ghost use Rattle.std.specs.Prelude.{◌≤◌};
 
 use cweb_texts::{Key, home_bucket};

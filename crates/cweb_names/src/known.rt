@@ -1,5 +1,4 @@
 // The names that are given in full.
-
 ghost use Rattle.std.specs.Prelude.{false, ◌≡◌, ◌<◌, ◌^◌, map, length, slice_get, bytes_eq};
 ghost use Rattle.std.specs.Prelude.{option_map, Some, IfOk, IfSome, true, OnOk};
 ghost use Rattle.std.specs.List.{list_any, position_or_len};

@@ -1,5 +1,4 @@
 // The names that occurrences resolve to.
-
 ghost use Rattle.std.specs.Prelude.{◌≡◌, ◌<◌, ◌^◌, length, IfOk};
 ghost use Rattle.cweb_names.specs.Names.{resolved_at};
 ghost use Rattle.cweb_names.specs.inner.Known.{resolve, resolve_all};

@@ -1,5 +1,4 @@
 // Spellings as keys of a sorted map.
-
 ghost use Rattle.std.specs.Prelude.{◌≡◌, Some, refl, bytes_eq};
 ghost use Rattle.std.specs.Ordering.{nat_cmp};
 ghost use Rattle.std.specs.Cmp.{partial_equiv_from_equiv};

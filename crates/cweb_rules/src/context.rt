@@ -1,5 +1,4 @@
 // The contexts of the rules.
-
 use cweb_files::Place;
 
 /// The part of a web that a position is in, as far as the rules depend on it.

@@ -1,5 +1,4 @@
 // The effects of control codes.
-
 use crate::fault::ScanKind;
 
 /// The effect of a control code in its context.

@@ -1,5 +1,4 @@
 // The faults of a web that a scan reports.
-
 use cweb_files::Place;
 
 /// What is wrong at a place of a web.

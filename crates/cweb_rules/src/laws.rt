@@ -1,5 +1,4 @@
 // Laws of the rules.
-
 ghost use Rattle.std.specs.Prelude.{◌≡◌, ◌+◌, ℕ, Bool, true, false, List, ◌∷◌, ◌++◌, codes, length};
 ghost use Rattle.std.specs.List.{list_all};
 ghost use Rattle.cweb_texts.specs.Edges.{first_is};

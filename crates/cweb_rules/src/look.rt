@@ -1,5 +1,4 @@
 // The next unit of a delimited item.
-
 use crate::end::End;
 
 /// What is next in a delimited item.

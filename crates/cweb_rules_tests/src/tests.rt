@@ -1,5 +1,4 @@
 // Worked examples of the rules, as tables.
-
 mod wanted;
 
 use cweb_rules::bytes::{Class, span_len, starts_section};

@@ -1,5 +1,4 @@
 // Laws of the lexemes of a source and of the store of a web.
-
 ghost use Rattle.std.specs.List.{list_all};
 ghost use Rattle.std.specs.Prelude.{◌≡◌, ◌∷◌, ◌++◌, [], All, Bool, List, ℕ, codes, true, false};
 ghost use Rattle.cweb_files.specs.declared.place.Place.{Place};

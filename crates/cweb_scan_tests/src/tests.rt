@@ -1,5 +1,4 @@
 // What no clause states: reports on the scans of webs, limits, and failed allocations.
-
 mod c_text;
 mod cases;
 mod codes;

@@ -1,5 +1,4 @@
 // The builder: accepts what a scan finds, call by call, and makes the store.
-
 ghost use Rattle.std.specs.Prelude.{◌≡◌, ◌<◌, ◌≤◌, ◌+◌, length, IsSome, IsNone, is_some, IfOk};
 ghost use Rattle.std.specs.Prelude.{IsTrue, OnOk, OnErr};
 ghost use Rattle.cweb_store.specs.surface.Tokens.{part_count, token_count, replacement_of};

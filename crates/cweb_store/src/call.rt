@@ -1,5 +1,4 @@
 // The calls of a builder as values.
-
 ghost use Rattle.std.specs.Prelude.{◌≡◌, ◌-◌, ◌↔◌, if◌then◌else◌, IsTrue, OnOk, OnErr};
 ghost use Rattle.cweb_store.specs.laws.Laws.{after_call, call_model, AcceptsCall};
 ghost use Rattle.cweb_names.specs.surface.Names.{too_many};

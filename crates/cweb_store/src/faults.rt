@@ -1,5 +1,4 @@
 // The faults of names: unresolved, prefixes of others, and names without a part.
-
 ghost use Rattle.std.specs.Prelude.{◌≡◌, ◌<◌, ◌^◌, ◌++◌, ◌&&◌, ◌||◌, not, [], List, length, map};
 ghost use Rattle.std.specs.Prelude.{IfOk, OnOk, ◌∷◌, if◌then◌else◌};
 ghost use Rattle.std.specs.List.{list_any};

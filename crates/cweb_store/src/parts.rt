@@ -1,5 +1,4 @@
 // Parts as ranges of token indices.
-
 ghost use Rattle.std.specs.Prelude.{◌≡◌};
 
 use cweb_names::NameRef;

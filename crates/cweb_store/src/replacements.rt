@@ -1,5 +1,4 @@
 // Transliterations of bytes in printed Words.
-
 ghost use Rattle.std.specs.Prelude.{◌≡◌, ◌++◌, ◌∷◌, [], map, IfOk, OnOk, OnErr};
 ghost use Rattle.cweb_store.specs.surface.Tokens.{replacement_of, replacement_bytes};
 ghost use Rattle.cweb_store.specs.inner.Stored.{AreLast};

@@ -1,5 +1,4 @@
 // The store of a finished web.
-
 pub(crate) mod answers;
 mod parts_wanted;
 pub mod token_access;

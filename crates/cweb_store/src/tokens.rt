@@ -1,5 +1,4 @@
 // Tokens that borrow their bytes.
-
 pub mod layout;
 pub mod list;
 pub mod queries;

@@ -1,5 +1,4 @@
 // Stores of builder calls that are written as strings.
-
 mod calls;
 mod direct_bytes;
 mod examples;

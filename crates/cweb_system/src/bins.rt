@@ -2,8 +2,7 @@
 ghost use Rattle.std.specs.Prelude.{◌≡◌, ◌≤◌, ◌<◌, ◌+◌, ◌^◌, ◌++◌, [], None, IsTrue, IsSome, IfSome, IfOk, IfErr, OnOk, OnErr};
 ghost use Rattle.std.specs.Prelude.{length, take, string_bytes};
 ghost use Rattle.cweb_system.specs.Steps.{OnDisk};
-ghost use Rattle.cweb_system.specs.inner.Drafts.{IfCanBegin, IfCanPlace, IsCleared};
-ghost use Rattle.cweb_system.specs.inner.Drafts.{KeepsMode};
+ghost use Rattle.cweb_system.specs.inner.Drafts.{IfCanBegin, IfCanPlace, IsCleared, KeepsMode};
 ghost use Rattle.cweb_system.specs.inner.FolderSound.{IsSound, IsSound_prop};
 
 use crate::drafts::{Draft, begin, discard, put_in_place, write_to};

@@ -1,5 +1,4 @@
 // The edge of a string: what decides whether a blank comes between it and its neighbours.
-
 ghost use Rattle.std.specs.Prelude.{◌≡◌};
 ghost use Rattle.std.specs.List.{list_any};
 ghost use Rattle.cweb_texts.specs.Edges.{first_is, is_operator};

@@ -1,5 +1,4 @@
 // The lists of a `StringList`, as slices.
-
 ghost use Rattle.std.specs.Prelude.{◌≡◌, ◌<◌, ◌+◌, List, ℕ, length, slice_get, Some};
 ghost use Rattle.cweb_texts.specs.inner.StringLists.{IsStoredEdge};
 

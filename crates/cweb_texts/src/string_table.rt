@@ -1,5 +1,4 @@
 // Strings in one table, those that repeat stored once.
-
 ghost use Rattle.std.specs.Prelude.{◌≡◌, ◌<◌, ◌+◌, ℕ, Some, false, length, slice_get, IfSome};
 ghost use Rattle.cweb_texts.specs.inner.Words.{key_of};
 ghost use Rattle.cweb_texts.specs.inner.StringTables.{AreByteIds, IsByteId, InternsWord, StringTableModel};

@@ -1,5 +1,4 @@
 // Strings in one byte buffer.
-
 ghost use Rattle.std.specs.Prelude.{◌≡◌, ◌<◌, ◌+◌, ◌^◌, [], List, ℕ, length, drop, take};
 ghost use Rattle.std.specs.Prelude.{slice_get, Some, OnOk};
 ghost use Rattle.cweb_texts.specs.inner.StringLists.{IsStoredEdge, IsFromStart, TakesNext};

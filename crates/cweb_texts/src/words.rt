@@ -1,5 +1,4 @@
 // Words: a hash table of them, and a sorted map of those that the table does not take.
-
 pub mod key;
 pub mod table;
 pub mod word;

@@ -1,5 +1,4 @@
 // Finished parts.
-
 ghost use Rattle.std.specs.Prelude.{◌≡◌, ◌<◌, length, IfOk};
 ghost use Rattle.cweb_names.specs.surface.Names.{too_many};
 ghost use Rattle.cweb_store.specs.Parts.{all_tokens, has_defs_code};

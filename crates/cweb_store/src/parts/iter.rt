@@ -1,5 +1,4 @@
 // Iterates over the parts of a name, the program or the macros.
-
 ghost use Rattle.std.specs.Prelude.{◌≡◌};
 ghost use Rattle.cweb_store.specs.inner.Stored.{followed};
 

@@ -1,5 +1,4 @@
 // Links from each part to the next part of its group.
-
 ghost use Rattle.std.specs.Prelude.{◌≡◌, ◌<◌, [], length, IfOk};
 ghost use Rattle.cweb_names.specs.surface.Names.{too_many};
 ghost use Rattle.cweb_store.specs.inner.Stored.{AreLinked, IsPut, head_of, AreWithin};

@@ -1,5 +1,4 @@
 // Parts while they are added.
-
 ghost use Rattle.std.specs.Prelude.{◌≡◌, ◌<◌, ◌+◌, ◌↔◌, IsSome, IsNone, IsTrue, is_some, OnOk};
 ghost use Rattle.std.specs.Prelude.{OnErr};
 ghost use Rattle.cweb_store.specs.inner.PartRanges.{with_closed_part, with_dropped_layout};

@@ -1,5 +1,4 @@
 // Results that need all names and parts.
-
 ghost use Rattle.std.specs.Prelude.{IfOk};
 ghost use Rattle.cweb_store.specs.inner.Stored.{AreAnswers};
 

@@ -1,5 +1,4 @@
 // The parts of a store: of the program, of a name, and of the macros.
-
 ghost use Rattle.std.specs.Prelude.{◌<◌, ◌↔◌, length, IsTrue};
 ghost use Rattle.cweb_names.specs.Names as spec;
 ghost use Rattle.cweb_store.specs.Parts.{is_macro, is_of, is_unnamed};

@@ -1,5 +1,4 @@
 // A store's tokens: their number and their bytes.
-
 ghost use Rattle.std.specs.Prelude.{◌≡◌, ◌<◌, length, map};
 ghost use Rattle.cweb_store.specs.inner.DirectBytes.{direct_bytes};
 ghost use Rattle.cweb_names.specs.surface.Names.{too_many};

@@ -1,5 +1,4 @@
 // Finds the end of a part without its trailing layout.
-
 ghost use Rattle.std.specs.Prelude.{◌≡◌, ◌≤◌, ℕ, filter, length, take, drop};
 ghost use Rattle.cweb_store.specs.Parts.{at_close, is_blank, without_blank, without_last_after};
 ghost use Rattle.cweb_store.specs.Parts.{without_layout};

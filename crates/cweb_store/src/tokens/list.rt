@@ -1,5 +1,4 @@
 // A list of tokens.
-
 ghost use Rattle.std.specs.Prelude.{◌≡◌, ◌<◌, ◌+◌, ◌++◌, ◌∷◌, [], filter, length, take, Some};
 ghost use Rattle.std.specs.Prelude.{slice_get, OnOk, OnErr};
 ghost use Rattle.cweb_names.specs.surface.Names.{too_many};

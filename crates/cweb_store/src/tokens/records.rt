@@ -1,5 +1,4 @@
 // Tokens as records of five bytes. A record holds an index of its string, or of its place if it is a Mark.
-
 ghost use Rattle.std.specs.Prelude.{◌≡◌, ◌<◌, ◌+◌, ℕ, length, Some, slice_get, IfOk, OnOk, OnErr};
 ghost use Rattle.cweb_names.specs.surface.Names.{too_many};
 ghost use Rattle.cweb_store.specs.inner.Records.{AreRecords, AddsPlace, InternsToken};

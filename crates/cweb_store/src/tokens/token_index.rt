@@ -1,5 +1,4 @@
 // The indices of tokens that are searched for later.
-
 ghost use Rattle.std.specs.Prelude.{◌≡◌, ◌≤◌, [], Bool, List, nat_lt, take, vec_capacity};
 ghost use Rattle.std.specs.List.{prefix_len};
 ghost use Rattle.std.specs.List.Sorted.{IsNonDecreasing};

@@ -1,5 +1,4 @@
 // The lists of a token's bytes as slices.
-
 ghost use Rattle.std.specs.Prelude.{◌≡◌, ◌<◌, List, ℕ, [], length, option_map, slice_get, Some};
 ghost use Rattle.cweb_store.specs.inner.DirectBytes.{direct_bytes};
 ghost use Rattle.cweb_store.specs.Parts as spec;

@@ -1,5 +1,4 @@
 // A number that may be at any address.
-
 ghost use Rattle.std.specs.Prelude.{◌≡◌};
 
 use std::marker::Model;

@@ -1,6 +1,5 @@
 // Builder calls as strings: a word and its argument, with `; ` between two calls. A refused call is repeated, so that
 // the examples also pass if an allocation fails.
-
 ghost use Rattle.std.specs.Prelude.{◌≡◌, ◌≤◌, length, is_some};
 ghost use Rattle.cweb_store.specs.surface.Tokens.{part_count, token_count};
 

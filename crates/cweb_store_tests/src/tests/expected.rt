@@ -1,5 +1,4 @@
 // Compares reports with expected strings, without allocation.
-
 ghost use Rattle.std.specs.Prelude.{◌<◌, ◌≤◌, length, All};
 ghost use Rattle.cweb_store.specs.Parts.{all_tokens};
 

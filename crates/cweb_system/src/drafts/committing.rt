@@ -4,8 +4,7 @@ ghost use Rattle.cweb_system.specs.FileSet.{keys_in};
 ghost use Rattle.cweb_system.specs.Steps.{OnDisk};
 ghost use Rattle.cweb_system.specs.Tree.{IsFile, at};
 ghost use Rattle.cweb_system.specs.inner.Drafts.{AnswersCommit, DraftIsThere, HasDraft, IsApart};
-ghost use Rattle.cweb_system.specs.inner.Drafts.{IsCleared, KeepsDecent};
-ghost use Rattle.cweb_system.specs.inner.Drafts.{KeepsMode, LeavesFiles};
+ghost use Rattle.cweb_system.specs.inner.Drafts.{IsCleared, KeepsDecent, KeepsMode, LeavesFiles};
 ghost use Rattle.cweb_system.specs.inner.Written.{Leaves, Places};
 
 use crate::drafts::steps::{remove_at, rename_draft, set_draft_mode};

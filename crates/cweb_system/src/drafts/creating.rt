@@ -1,6 +1,5 @@
 // Drafts are created, and what was left at their paths is cleared.
-ghost use Rattle.std.specs.Prelude.{◌≡◌, None, Some, Ok, List, Contains, IsTrue, IsErr, IsSome, IfErr, IfOk, IfSome, OnOk};
-ghost use Rattle.std.specs.Prelude.{true};
+ghost use Rattle.std.specs.Prelude.{◌≡◌, None, Some, Ok, Contains, true, IsErr, IsSome, IfErr, IfOk, IfSome, OnOk};
 ghost use Rattle.cweb_system.specs.declared.node.FileKey.{FileKey};
 ghost use Rattle.cweb_system.specs.FileSet.{keys_in};
 ghost use Rattle.cweb_system.specs.Steps.{OnDisk};

@@ -3,8 +3,7 @@ ghost use Rattle.std.specs.Prelude.{◌≡◌, ◌≤◌, ◌<◌, ℕ, List, If
 ghost use Rattle.cweb_system.specs.declared.node.FileKey.{FileKey};
 ghost use Rattle.cweb_system.specs.Steps.{Changes, OnDisk};
 ghost use Rattle.cweb_system.specs.Tree.{Appends, IsFile, MayCreate, Removes, Renames, SetsMode, at};
-ghost use Rattle.cweb_system.specs.inner.Drafts.{IsDraftAlone, IsUnread};
-ghost use Rattle.cweb_system.specs.inner.Drafts.{IsAlone, KeepsDecent};
+ghost use Rattle.cweb_system.specs.inner.Drafts.{IsDraftAlone, IsUnread, IsAlone, KeepsDecent};
 
 use crate::drafts::{Draft, DraftPath};
 use crate::file_system::FileSystem;

@@ -1,5 +1,4 @@
 // The key of a word, and its bucket.
-
 ghost use Rattle.std.specs.Prelude.{◌≡◌, ◌≤◌, ◌<◌, length, slice_index_or};
 ghost use Rattle.std.specs.Int.{w32, w64, from_le_bytes};
 ghost use Rattle.cweb_texts.specs.inner.Words.{key_of, hash_of, home_bucket_of, key_hash};

@@ -1,5 +1,4 @@
 // A hash table of words.
-
 ghost use Rattle.std.specs.Prelude.{◌≡◌, ◌<◌, ◌≤◌, ◌∷◌, ◌++◌, [], ℕ, List, Some, length, false};
 ghost use Rattle.std.specs.Prelude.{slice_get, slice_index_or, IfSome, MatchBool, MatchOption};
 ghost use Rattle.std.specs.Prelude.{vec_capacity, vec_len};

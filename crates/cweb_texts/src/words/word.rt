@@ -1,5 +1,4 @@
 // A word of the hash table.
-
 ghost use Rattle.std.specs.Prelude.{◌≡◌, ◌↔◌, true, List, ℕ, bytes_eq, length, IfSome, IsTrue};
 ghost use Rattle.cweb_texts.specs.inner.Words.{AreBytes, key_of, DescribesString, word_string};
 
