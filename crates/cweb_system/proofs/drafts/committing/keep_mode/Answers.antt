@@ -9,7 +9,8 @@ use Rattle.cweb_system.proofs.drafts.committing.keep_mode.Goals as goal
 pub returns-in_err-set_draft_mode-in-Some-File : goal.returns-in_err-set_draft_mode-in-Some-File
 returns-in_err-set_draft_mode-in-Some-File g c = grind arith
 
-pub returns-in_ok-set_draft_mode-in-Some-File-clause-leaves : goal.returns-in_ok-set_draft_mode-in-Some-File-clause-leaves
+pub returns-in_ok-set_draft_mode-in-Some-File-clause-leaves
+    : goal.returns-in_ok-set_draft_mode-in-Some-File-clause-leaves
 returns-in_ok-set_draft_mode-in-Some-File-clause-leaves g c = grind arith
 
 pub returns-in_ok-set_draft_mode-in-Some-File-clause-stays : goal.returns-in_ok-set_draft_mode-in-Some-File-clause-stays
