@@ -23,6 +23,8 @@ struct Reached {
 
 impl<'a> Printer<'a> {
     /// Prints a range's tokens up to one that isn't direct or doesn't fit. Returns its index. Prints none after a join.
+    // Inlined into a run, its loop would have fewer registers.
+    #[inline(never)]
     pub fn append_range(&mut self, store: &Store, part: Part, buffer: &mut OutBuffer) -> u32
         requires ordered { part.first ≤ part.after }
         requires within { part.after ≤ length (all_tokens store.now.parts) }

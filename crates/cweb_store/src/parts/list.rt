@@ -1,6 +1,5 @@
 // Parts while they are added.
-ghost use Rattle.std.specs.Prelude.{◌≡◌, ◌<◌, ◌+◌, ◌↔◌, IsSome, IsNone, IsTrue, is_some, OnOk};
-ghost use Rattle.std.specs.Prelude.{OnErr};
+ghost use Rattle.std.specs.Prelude.{◌≡◌, ◌<◌, ◌+◌, ◌↔◌, IsSome, IsNone, IsTrue, is_some, OnOk, OnErr};
 ghost use Rattle.cweb_store.specs.inner.PartRanges.{with_closed_part, with_dropped_layout};
 ghost use Rattle.cweb_store.specs.inner.PartRanges.{no_parts, with_opened_part, with_pushed_token};
 ghost use Rattle.cweb_store.specs.inner.PartRanges.{last_range};
