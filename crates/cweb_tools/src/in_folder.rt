@@ -16,8 +16,9 @@ ghost use Rattle.cweb_tools.specs.Script.{TangleCourse, script};
 ghost use Rattle.cweb_tools.specs.Tangle.{IsTangleCourse, TanglePromises, shown_by};
 
 use crate::scanning::scan_web;
-use crate::tangle::{begin_tangle, tangle_scanned};
+use crate::tangle::{begin_tangle, tangle_web};
 use crate::wdep::run_wdep;
+use crate::web::Web;
 use crate::wmerge::run_wmerge;
 use cweb_lines::Sink;
 use cweb_system::{FileSet, FileSystem, FolderBins, FolderShelf};
@@ -64,8 +65,16 @@ pub fn tangle_in_folder<F: FileSystem + Drop, L: Sink>(
     let mut shelf = FolderShelf::noting(fs, FileSet::new(alloc));
     match scan_web(alloc, &options, inputs, &mut shelf, log) {
         Ok(read) => {
+            let web = Web::of(&read);
             let mut bins = shelf.into_bins(alloc);
-            let status = tangle_scanned(alloc, &options, &read, &mut bins, log);
+            let status = tangle_web(
+                alloc,
+                options.shown(),
+                options.main.as_str(),
+                web,
+                &mut bins,
+                log,
+            );
             (status, bins)
         }
         Err(status) => (status, shelf.into_bins(alloc)),

@@ -1,8 +1,7 @@
 // A run of `ctangle`.
-ghost use Rattle.std.specs.Prelude.{◌≡◌, ◌≢◌, ◌<◌, ◌+◌, ◌^◌, None, Some, IfErr, IfOk, length, map};
+ghost use Rattle.std.specs.Prelude.{◌≡◌, ◌≢◌, ◌<◌, ◌+◌, ◌^◌, None, Some, IfErr, IfOk, map};
 ghost use Rattle.std.specs.Option.{option_copied};
-ghost use Rattle.cweb_lines.specs.surface.MergerCalls.{so_far};
-ghost use Rattle.cweb_scan.specs.surface.Scan.{IsScanBelow, scanned_model};
+ghost use Rattle.cweb_scan.specs.surface.Scan.{scanned_model};
 ghost use Rattle.cweb_out.specs.surface.Outputs.{IsPlanOf};
 ghost use Rattle.cweb_log.specs.CommandLine.{options_by};
 ghost use Rattle.cweb_log.specs.DeviceModels.{CountsFit, contents_of, devices};
@@ -12,7 +11,7 @@ ghost use Rattle.cweb_log.specs.surface.Options.{options_of};
 ghost use Rattle.cweb_tools.specs.Acts.{LogsEnding, acts_status, ending};
 ghost use Rattle.cweb_tools.specs.Course.{world_of};
 ghost use Rattle.cweb_tools.specs.Script.{planned_acts, web_acts, when};
-ghost use Rattle.cweb_tools.specs.Tangle.{numbers_of, web_of, TanglePromises, TanglesFreely};
+ghost use Rattle.cweb_tools.specs.Tangle.{numbers_of, TanglePromises, TanglesFreely};
 ghost use Rattle.cweb_tools.specs.inner.Tangle.{EndsUnread, fault_count, plan_made, status_by};
 ghost use Rattle.cweb_tools.specs.inner.Tangle.{IsKnown, faults_of, files_of, web_in};
 
@@ -23,10 +22,9 @@ use crate::saying::{say, say_end, say_starred};
 use crate::scanning::scan_web;
 use crate::tangle::unplanned::tangle_unplanned;
 use crate::web::{Web, say_faults, status};
-use cweb_lines::{Merger, Shelf, Sink, SinkFault, Stop};
+use cweb_lines::{Shelf, Sink, SinkFault, Stop};
 use cweb_log::{LogLine, Options, Shown, log_stop};
 use cweb_out::{Bins, Expander, OutBuffer, Plan, plan};
-use cweb_scan::Scanned;
 use std::alloc::Global;
 
 const USAGE: &str = "ctangle [options] webfile[.w] [{changefile[.ch]|-} [outfile[.c]]]";
@@ -60,7 +58,17 @@ pub fn run_ctangle<S: Shelf, B: Bins, L: Sink>(
         Err(status) => return status,
     };
     match scan_web(alloc, &options, inputs, shelf, log) {
-        Ok(read) => tangle_scanned(alloc, &options, &read, bins, log),
+        Ok(read) => {
+            let web = Web::of(&read);
+            tangle_web(
+                alloc,
+                options.shown(),
+                options.main.as_str(),
+                web,
+                bins,
+                log,
+            )
+        }
         Err(status) => status,
     }
 }
@@ -91,35 +99,8 @@ pub(crate) fn begin_tangle<L: Sink>(
     Ok(options)
 }
 
-/// The rest of a run, once its web is scanned.
-pub(crate) fn tangle_scanned<S: Shelf, B: Bins, L: Sink>(
-    alloc: Global,
-    options: &Options,
-    read: &(Merger<S>, Scanned),
-    bins: &mut B,
-    log: &mut L,
-) -> u8
-    requires known { IsScanBelow (length (so_far read.now.0).names) (scanned_model read.now.1) }
-    requires counts { SinkCountsFit (B.model bins.old).failed (L.model log.old).failed }
-    ensures { let args = options_of options.now in
-        let so = so_far read.now.0 in
-        let web = web_of so.names so.faults (scanned_model read.now.1) args.names.main in
-        EndsInBoth (web_acts args.shown web) (acts_status (web_acts args.shown web))
-        (B.model bins.old) (B.model bins.new)
-        (L.model log.old) (L.model log.new) result }
-{
-    tangle_web(
-        alloc,
-        options.shown(),
-        options.main.as_str(),
-        Web::of(read),
-        bins,
-        log,
-    )
-}
-
 /// Logs the faults of a scanned web, plans its outputs, and continues with the plan.
-fn tangle_web<B: Bins, L: Sink>(
+pub(crate) fn tangle_web<B: Bins, L: Sink>(
     alloc: Global,
     shown: Shown,
     main: &str,

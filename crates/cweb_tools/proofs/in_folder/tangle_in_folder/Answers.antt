@@ -22,23 +22,17 @@ scan_web-requires g c = (
   ),
 )
 
-pub tangle_scanned-status-requires : goal.tangle_scanned-status-requires
-tangle_scanned-status-requires g c = (
-  omega arith,
-  (
-    c.in-Ok-scan_web.ensures.below,
-    record {
-      out = omega (arith, ap (λ (bins : SinkModel). bins.failed) c.into_bins-bins.ensures.empty);
-      log =
-          omega (
-            arith,
-            log_counted c.in-Ok.ensures.banner,
-            ap (λ log. (g.L.Sink.model log).failed) c.in-Ok-scan_web.ensures.silent,
-            c.requires.count,
-          );
-    },
-  ),
-)
+pub tangle_web-status-requires-clause-counts : goal.tangle_web-status-requires-clause-counts
+tangle_web-status-requires-clause-counts g c = record {
+  out = omega (arith, ap (λ (bins : SinkModel). bins.failed) c.into_bins-bins.ensures.empty);
+  log =
+      omega (
+        arith,
+        log_counted c.in-Ok.ensures.banner,
+        ap (λ log. (g.L.Sink.model log).failed) c.in-Ok-scan_web.ensures.silent,
+        c.requires.count,
+      );
+}
 
 pub returns-in-Err-clause-promises : goal.returns-in-Err-clause-promises
 returns-in-Err-clause-promises g c =
@@ -62,8 +56,8 @@ pub returns-in-Ok-scan_web-clause-promises : goal.returns-in-Ok-scan_web-clause-
 returns-in-Ok-scan_web-clause-promises g c =
     let inputs : Option (List ℕ) = option_copied c.args.inputs in
     let first : SinkModel = bins_model g.F.FileSystem c.into_bins-bins.result in
-    let out : SinkModel = bins_model g.F.FileSystem c.tangle_scanned-status.new.bins in
-    let log : SinkModel = g.L.Sink.model c.tangle_scanned-status.new.log in
+    let out : SinkModel = bins_model g.F.FileSystem c.tangle_web-status.new.bins in
+    let log : SinkModel = g.L.Sink.model c.tangle_web-status.new.log in
     let shelf : FailedReads = failed_reads (shelf_model g.F.FileSystem c.noting-shelf.result) in
     let read : FailedReads = failed_reads (shelf_model g.F.FileSystem c.scan_web.new.shelf) in
     let world : World = world_of_shelf (shelf_model g.F.FileSystem c.noting-shelf.result) inputs in
@@ -71,17 +65,25 @@ returns-in-Ok-scan_web-clause-promises g c =
     let bins = c.into_bins-bins.ensures in
     tangles_in g.F.FileSystem c.args.fs inputs (options_in c.args.words.now)
     c.noting-shelf.result c.scan_web.new.shelf c.into_bins-bins.result out (g.L.Sink.model c.args.log.now)
-    log c.tangle_scanned-status.result c.noting-shelf.ensures.model
+    log c.tangle_web-status.result c.noting-shelf.ensures.model
     bins.empty
     (rw c.in-Ok.ensures.ok (promised world (Some args)
     (named_ends world args shelf first (at read out log) _ c.in-Ok.ensures.banner
     (c.in-Ok-scan_web.ensures.scans (tangle_later args.shown) first _ _
-    (rw c.in-Ok-scan_web.ensures.silent at (c.tangle_scanned-status.ensures read))))))
+    (rw (
+      c.shown.ensures,
+      c.as_str.ensures.value,
+      c.of-web.ensures.names,
+      c.of-web.ensures.faults,
+      c.of-web.ensures.scanned,
+      c.in-Ok-scan_web.ensures.silent,
+    )
+    at (c.tangle_web-status.ensures read))))))
 
 pub returns-in-Ok-scan_web-clause-files : goal.returns-in-Ok-scan_web-clause-files
-returns-in-Ok-scan_web-clause-files g c = left_in_folder g.F.FileSystem c.args.fs c.tangle_scanned-status.new.bins
+returns-in-Ok-scan_web-clause-files g c = left_in_folder g.F.FileSystem c.args.fs c.tangle_web-status.new.bins
     (world_of_shelf (new_shelf g.F.FileSystem c.args.fs) (option_copied c.args.inputs)) (options_in c.args.words.now)
-    (g.L.Sink.model c.args.log.now) (g.L.Sink.model c.tangle_scanned-status.new.log) c.tangle_scanned-status.result
+    (g.L.Sink.model c.args.log.now) (g.L.Sink.model c.tangle_web-status.new.log) c.tangle_web-status.result
     (returns-in-Ok-scan_web-clause-promises g c)
 
 pub returns-clause-promises : goal.returns-clause-promises

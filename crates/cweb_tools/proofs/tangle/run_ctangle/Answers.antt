@@ -16,23 +16,17 @@ pub returns-in-Err-clause-freely : goal.returns-in-Err-clause-freely
 returns-in-Err-clause-freely g c = tangled_freely (world_of (contents_of (g.S.Shelf.model c.args.shelf.now)).texts
     (option_copied c.args.inputs)) (options_in c.args.words.now) (returns-in-Err-clause-promises g c)
 
-pub tangle_scanned-requires : goal.tangle_scanned-requires
-tangle_scanned-requires g c = (
-  omega arith,
-  (
-    c.in-Ok-scan_web.ensures.below,
-    record {
-      out = c.requires.counts.out;
-      log =
-          omega (
-            arith,
-            log_counted c.in-Ok.ensures.banner,
-            ap (λ log. (g.L.Sink.model log).failed) c.in-Ok-scan_web.ensures.silent,
-            c.requires.counts.log,
-          );
-    },
-  ),
-)
+pub tangle_web-requires-clause-counts : goal.tangle_web-requires-clause-counts
+tangle_web-requires-clause-counts g c = record {
+  out = c.requires.counts.out;
+  log =
+      omega (
+        arith,
+        log_counted c.in-Ok.ensures.banner,
+        ap (λ log. (g.L.Sink.model log).failed) c.in-Ok-scan_web.ensures.silent,
+        c.requires.counts.log,
+      );
+}
 
 pub returns-in-Ok-scan_web-clause-promises : goal.returns-in-Ok-scan_web-clause-promises
 returns-in-Ok-scan_web-clause-promises g c =
@@ -41,10 +35,17 @@ returns-in-Ok-scan_web-clause-promises g c =
     rw c.in-Ok.ensures.ok (promised world (Some args)
     (named_ends world args (failed_reads (g.S.Shelf.model c.args.shelf.now))
     (g.B.Sink.model c.args.bins.now) (devices g.S.Shelf g.B.Sink g.L.Sink c.scan_web.new.shelf
-    c.tangle_scanned.new.bins c.tangle_scanned.new.log) _ c.in-Ok.ensures.banner
+    c.tangle_web.new.bins c.tangle_web.new.log) _ c.in-Ok.ensures.banner
     (c.in-Ok-scan_web.ensures.scans (tangle_later args.shown) (g.B.Sink.model c.args.bins.now) _ _
-    (rw c.in-Ok-scan_web.ensures.silent
-    at (c.tangle_scanned.ensures (failed_reads (g.S.Shelf.model c.scan_web.new.shelf)))))))
+    (rw (
+      c.shown.ensures,
+      c.as_str.ensures.value,
+      c.of-web.ensures.names,
+      c.of-web.ensures.faults,
+      c.of-web.ensures.scanned,
+      c.in-Ok-scan_web.ensures.silent,
+    )
+    at (c.tangle_web.ensures (failed_reads (g.S.Shelf.model c.scan_web.new.shelf)))))))
 
 pub returns-in-Ok-scan_web-clause-freely : goal.returns-in-Ok-scan_web-clause-freely
 returns-in-Ok-scan_web-clause-freely g c = tangled_freely
