@@ -1,4 +1,4 @@
-//! The tests of `cweb_lines`, in a crate of their own, so that a change of them doesn't check `cweb_lines` again.
+//! The tests of `cweb_lines` and `cweb_files`, in a crate of their own, so that a change of them doesn't check these again.
 #![tactic(auto)]
 
 #[cfg(test)]

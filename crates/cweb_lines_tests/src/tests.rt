@@ -8,6 +8,7 @@ mod chunks;
 mod devices;
 mod failing;
 mod failing_writes;
+mod files;
 mod limits;
 mod mergers;
 mod wanted;

@@ -1,4 +1,4 @@
-//! The tests of `cweb_scan`, in a crate of their own, so that a change of them doesn't check `cweb_scan` again.
+//! The tests of `cweb_scan` and `cweb_rules`, in a crate of their own, so that a change of them doesn't check these again.
 #![tactic(auto)]
 
 #[cfg(test)]

@@ -13,7 +13,9 @@ mod macros;
 mod names;
 mod plain;
 mod rendered;
+mod rules;
 mod sections;
+mod spacing;
 mod wanted;
 mod worked;
 

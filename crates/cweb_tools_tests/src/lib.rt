@@ -1,4 +1,5 @@
-//! The tests of `cweb_tools`, in a crate of their own, so that a change of them doesn't check `cweb_tools` again.
+//! The tests of `cweb_tools`, in memory and on real folders, in a crate of their own, so that a change of them doesn't check
+//! `cweb_tools` again.
 #![tactic(auto)]
 
 #[cfg(test)]

@@ -7,6 +7,7 @@ mod devices;
 mod environment;
 mod expected;
 mod failing;
+mod folders;
 mod items;
 mod many_faults;
 mod merges;

@@ -1,6 +1,5 @@
 // Worked examples of the rules, as tables.
-mod wanted;
-
+use super::wanted::*;
 use cweb_rules::bytes::{Class, span_len, starts_section};
 use cweb_rules::codes::{in_c, in_limbo, in_macro, in_tex};
 use cweb_rules::constants::{Transliteration, constant, letter};
@@ -10,7 +9,6 @@ use cweb_rules::numbers::number_len;
 use cweb_rules::punctuators::punctuator_len;
 use cweb_rules::rule::{Rule, c_rule};
 use cweb_rules::{Effect, End, ScanKind};
-use wanted::*;
 
 #[test]
 fn first_rule_that_fits(rt: HostRuntime) {

@@ -1,7 +1,7 @@
 use Rattle.std.proofs.Common.{◌≡◌}
 use Rattle.cweb_input.specs.surface.OpenedFileNames.{opened_file_names}
 use Rattle.cweb_print.specs.surface.Printed.{setting_of}
-use Rattle.cweb_spacing_tests.proofs.tests.print.Given as goal
+use Rattle.cweb_scan_tests.proofs.tests.spacing.print.Given as goal
 
 abbrev pub invariant-tokens : goal.invariant-tokens
 invariant-tokens g l = (setting_of l.printer).files ≡ opened_file_names l.names

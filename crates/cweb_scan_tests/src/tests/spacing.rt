@@ -1,10 +1,11 @@
-// Tokens are printed and read again.
+// The law of blanks: tokens are printed by `cweb_print` and read again by `cweb_scan`.
 ghost use Rattle.std.specs.Prelude.{◌≡◌, true};
 ghost use Rattle.cweb_input.specs.surface.OpenedFileNames.{opened_file_names};
 ghost use Rattle.cweb_store.specs.surface.Tokens.{token_model};
 ghost use Rattle.cweb_print.specs.surface.Printed.{MarkFileIsNamed};
 ghost use Rattle.cweb_print.specs.Printing.{Setting};
 
+use super::wanted::holds;
 use cweb_files::{MemoryShelf, MemorySink, Sink};
 use cweb_lines::{FileNames, Merger, Stop};
 use cweb_out::Printer;
@@ -15,13 +16,6 @@ use std::process::Abort;
 
 // More bytes than any example has.
 const ROOM: usize = 1000;
-
-// Assertions are small functions of their own, so that they and their callers verify quickly.
-fn holds(rt: &impl Abort, is_so: bool)
-    ensures { is_so ≡ true }
-{
-    assert!(rt; is_so);
-}
 
 fn is_named(names: &FileNames, token: &Token<'_>) -> bool
     ensures { result ≡ true → (s : Setting) → s.files ≡ opened_file_names names.now
