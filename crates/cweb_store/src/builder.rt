@@ -71,8 +71,7 @@ impl Builder {
             (self.new ≡ with_occurrence (occurrence_of name.now how is_file) self.old) }
         ensures err { OnErr result (self.new ≡ self.old) }
     {
-        let number = self.names.add(name, how, is_file)?;
-        Ok(number)
+        self.names.add(name, how, is_file)
     }
 
     /// Whether one more occurrence, one more part and one more token are within their limits.
@@ -101,8 +100,7 @@ impl Builder {
         ensures ok { OnOk result (self.new ≡ with_open kind self.old) }
         ensures err { OnErr result (self.new ≡ self.old) }
     {
-        self.parts.open(kind)?;
-        Ok(())
+        self.parts.open(kind)
     }
 
     /// Appends a token to the open part. A refused call changes nothing.
@@ -113,8 +111,7 @@ impl Builder {
         ensures ok { OnOk result (self.new ≡ with_token (token_model token.entry) self.old) }
         ensures err { OnErr result (self.new ≡ self.old) }
     {
-        self.parts.push(token)?;
-        Ok(())
+        self.parts.push(token)
     }
 
     /// Drops the open part's trailing Blanks, Newlines and Marks, but no macro's first two tokens. Allocates nothing.
@@ -140,8 +137,7 @@ impl Builder {
             (self.new ≡ with_replacement (replacement_of byte new.now) self.old) }
         ensures err { OnErr result (self.new ≡ self.old) }
     {
-        self.replacements.add(byte, new)?;
-        Ok(())
+        self.replacements.add(byte, new)
     }
 
     /// Makes the store. An open part ends here, without the drops of `close_part`. A failed call consumes the builder.

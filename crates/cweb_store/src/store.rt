@@ -77,15 +77,14 @@ impl Store {
         let (mut strings, forms) = table.close();
         let replaced = replacements.close(&mut strings)?;
         let last_places = last_places(alloc, replaced.as_slice())?;
-        let store = Store {
+        Ok(Store {
             parts,
             strings,
             forms,
             replaced,
             last_places,
             answers,
-        };
-        Ok(store)
+        })
     }
 
     /// The token at an index.

@@ -67,7 +67,7 @@ impl PartList {
         ensures { IsTrue result ↔ (part_count self.now.parts + 1 < too_many)
             × (token_count self.now.parts + 1 < too_many) }
     {
-        self.part_count() < FULL && self.token_count() < FULL
+        self.part_count() < FULL && self.tokens.len() < FULL
     }
 
     // The number of parts, the open one included.
@@ -78,13 +78,6 @@ impl PartList {
             Some(_) => self.ranges.len() + 1,
             None => self.ranges.len(),
         }
-    }
-
-    // The number of tokens, those of the open part included.
-    fn token_count(&self) -> usize
-        ensures { result ≡ token_count self.now.parts }
-    {
-        self.tokens.len()
     }
 
     /// Begins a part. A refused call changes nothing.

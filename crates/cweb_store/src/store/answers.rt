@@ -10,7 +10,6 @@ use indexmap::IndexSet;
 use std::alloc::{AllocError, Global};
 
 /// The names, resolutions, file names, faults, and the links of the parts.
-#[derive(Drop)]
 pub(crate) struct Answers {
     // for each name the number of the occurrence that first gave it in full
     pub firsts: Vec<u32>,
@@ -19,6 +18,19 @@ pub(crate) struct Answers {
     pub faults: Vec<NameFault>,
     pub links: Links,
     pub has_defs_code: bool,
+}
+
+impl Drop for Answers {
+    fn drop(self) {
+        let Self {
+            firsts: _,
+            resolutions: _,
+            files: _,
+            faults: _,
+            links: _,
+            has_defs_code: _,
+        } = self;
+    }
 }
 
 impl Answers {

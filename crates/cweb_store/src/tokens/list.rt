@@ -13,12 +13,22 @@ use std::alloc::{AllocError, Global};
 use std::marker::Model;
 
 /// Tokens as records, their strings, the places of the Marks, in order, and an index of uses and Defs.
-#[derive(Drop)]
 pub struct TokenList {
     pub(crate) strings: StringTable,
     pub(crate) records: Vec<Record>,
     places: Vec<Place>,
     pub(crate) token_index: TokenIndex,
+}
+
+impl Drop for TokenList {
+    fn drop(self) {
+        let Self {
+            strings: _,
+            records: _,
+            places: _,
+            token_index: _,
+        } = self;
+    }
 }
 
 impl Model for TokenList {

@@ -2,8 +2,8 @@ use Rattle.cweb_store.proofs.Common.{◌≡◌, ℕ, List, ◌++◌, map, ◌∙
 use Rattle.cweb_store.proofs.StoredLemmas.{strings_of, stored-is, stored-are}
 use Rattle.cweb_store.proofs.store.Store.new.Goals as goal
 
-pub invariant_of-store : goal.invariant_of-store
-invariant_of-store c =
+pub invariant_of-result : goal.invariant_of-result
+invariant_of-result c =
     let os = c.args.table in
     let rs = c.args.replacements in
     let closed = c.close-strings.ensures in
