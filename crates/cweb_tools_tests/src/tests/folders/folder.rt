@@ -3,7 +3,7 @@ use super::puts::*;
 use super::runs::tangle_twice;
 use super::wanted::holds;
 use cweb_out::Bins;
-use cweb_tools::{FileSet, FolderBins, LockableFile, StdFolder};
+use cweb_tools::{FileSet, FolderBins, StdFolder};
 use std::process::Abort;
 use std::rt::{Env, Files};
 use std::{env, fs};
@@ -34,8 +34,6 @@ enum Step {
     PutOverLeftDraft,
     PutOverLinkedDraft,
     PutAgain,
-    PutWhatWasRead,
-    OpenWhatIsClosed,
     TangleTwice,
     // the expected failure count
     HasFailed(u64),
@@ -44,8 +42,7 @@ enum Step {
 impl Step {
     fn take<B: Bins>(
         &self,
-        host: &HostRuntime,
-        rt: &(impl Abort + Env + Files<File: LockableFile> + AllocGlobal),
+        rt: &(impl Abort + Env + Files + AllocGlobal),
         bins: &mut B,
         folder: &str,
     ) {
@@ -57,8 +54,6 @@ impl Step {
             Step::PutOverLeftDraft => put_over_left_draft(rt, bins, folder),
             Step::PutOverLinkedDraft => put_over_linked_draft(rt, bins, folder),
             Step::PutAgain => put_again(rt, bins, folder),
-            Step::PutWhatWasRead => put_what_was_read(host, rt, folder),
-            Step::OpenWhatIsClosed => open_what_is_closed(host, rt, folder),
             Step::TangleTwice => tangle_twice(rt, bins, folder),
             Step::HasFailed(count) => holds(rt, bins.failures() == *count),
         }
@@ -67,16 +62,15 @@ impl Step {
 
 /// Runs steps with bins of their own, while the bins of the earlier steps still exist.
 fn run_after<B: Bins + Drop>(
-    host: &HostRuntime,
-    rt: &(impl Abort + Env + Files<File: LockableFile> + AllocGlobal),
+    rt: &(impl Abort + Env + Files + AllocGlobal),
     bins: (B, B),
     folder: &str,
     before: &[Step],
     steps: &[Step],
 ) {
     let (mut first, mut second) = bins;
-    run(host, rt, &mut first, folder, before);
-    run(host, rt, &mut second, folder, steps);
+    run(rt, &mut first, folder, before);
+    run(rt, &mut second, folder, steps);
     drop(second);
     drop(first);
 }
@@ -87,27 +81,26 @@ fn new_bins(host: &HostRuntime) -> FolderBins<StdFolder<&HostRuntime>> {
 }
 
 fn run<B: Bins>(
-    host: &HostRuntime,
-    rt: &(impl Abort + Env + Files<File: LockableFile> + AllocGlobal),
+    rt: &(impl Abort + Env + Files + AllocGlobal),
     bins: &mut B,
     folder: &str,
     steps: &[Step],
 ) {
     for step in steps {
-        step.take(host, rt, bins, folder);
+        step.take(rt, bins, folder);
     }
 }
 
 /// Runs the steps in a new folder.
 fn check(
     host: &HostRuntime,
-    rt: &(impl Abort + Env + Files<File: LockableFile> + AllocGlobal),
+    rt: &(impl Abort + Env + Files + AllocGlobal),
     before: &[Step],
     steps: &[Step],
 ) {
     let folder = new_folder(rt);
     let bins = (new_bins(host), new_bins(host));
-    run_after(host, rt, bins, folder.as_str(), before, steps);
+    run_after(rt, bins, folder.as_str(), before, steps);
     fs::remove_dir_all(rt, folder.as_str()).expect(rt, "the folder");
 }
 
@@ -136,16 +129,6 @@ fn drafts_of_others_are_never_written(rt: HostRuntime) {
 }
 
 #[test]
-fn files_that_were_read_stay(rt: HostRuntime) {
-    check(&rt, &rt, &[], &[Step::PutWhatWasRead, Step::HasFailed(0)]);
-}
-
-#[test]
 fn two_runs_over_the_same_bins(rt: HostRuntime) {
     check(&rt, &rt, &[], &[Step::TangleTwice, Step::HasFailed(0)]);
-}
-
-#[test]
-fn refused_openings(rt: HostRuntime) {
-    check(&rt, &rt, &[], &[Step::OpenWhatIsClosed]);
 }

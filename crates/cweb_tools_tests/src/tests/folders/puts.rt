@@ -1,10 +1,8 @@
 // Writes files in a folder and checks the result.
 use super::wanted::*;
-use cweb_lines::{Shelf, Sink, write_all};
+use cweb_lines::{Sink, write_all};
 use cweb_out::{BinFault, Bins};
-use cweb_tools::{FileSet, FolderShelf, LockableFile, StdFolder};
 use std::fs;
-use std::os::unix::fs::PermissionsExt;
 use std::process::Abort;
 use std::rt::Files;
 
@@ -168,56 +166,4 @@ fn link_file(rt: &(impl Abort + Files + AllocGlobal), folder: &str) {
     let file = joined(rt, &[folder, "/a.c"]);
     let further = joined(rt, &[folder, "/further.c"]);
     fs::hard_link(rt, file.as_str(), further.as_str()).expect(rt, "a further name");
-}
-
-/// Writes a file in a folder and returns its path.
-fn written(rt: &(impl Abort + Files + AllocGlobal), folder: &str, name: &str) -> String {
-    let path = joined(rt, &[folder, "/", name]);
-    fs::write(rt, path.as_str(), "x").expect(rt, "a file");
-    path
-}
-
-/// A shelf that records what it opens.
-fn noting_shelf(host: &HostRuntime) -> FolderShelf<StdFolder<&HostRuntime>> {
-    let fs = StdFolder::with_streams(host.alloc(), host);
-    FolderShelf::noting(fs, FileSet::new(host.alloc()))
-}
-
-/// A file that was read is not replaced.
-pub fn put_what_was_read(
-    host: &HostRuntime,
-    rt: &(impl Abort + Files<File: LockableFile> + AllocGlobal),
-    folder: &str,
-) {
-    let path = written(rt, folder, "a.w");
-    let mut shelf = noting_shelf(host);
-    holds(rt, opens(rt, &mut shelf, path.as_str()));
-    let mut bins = shelf.into_bins(host.alloc());
-    put_over_read(rt, &mut bins, folder);
-}
-
-fn put_over_read<B: Bins>(rt: &(impl Abort + Files + AllocGlobal), bins: &mut B, folder: &str) {
-    check_put(rt, bins, folder, "a.w", b"lost", Some(b"x"));
-    check_put(rt, bins, folder, "b.w", b"y", Some(b"y"));
-    holds(rt, bins.failures() == 1);
-}
-
-/// Any error on opening means that the file isn't there.
-pub fn open_what_is_closed(
-    host: &HostRuntime,
-    rt: &(impl Abort + Files<File: LockableFile> + AllocGlobal),
-    folder: &str,
-) {
-    let path = written(rt, folder, "closed.w");
-    fs::set_permissions(rt, path.as_str(), fs::Permissions::from_mode(0)).expect(rt, "a mode");
-    // The superuser may read it anyway.
-    let may_read = fs::open(rt, path.as_str()).is_ok();
-    let mut shelf = noting_shelf(host);
-    opens_if(rt, &mut shelf, path.as_str(), may_read);
-}
-
-fn opens_if<S: Shelf>(rt: &impl Abort, shelf: &mut S, path: &str, may_read: bool) {
-    holds(rt, opens(rt, shelf, path) == may_read);
-    holds(rt, !opens(rt, shelf, "/dev/null/x"));
-    holds(rt, shelf.failures() == 0);
 }
