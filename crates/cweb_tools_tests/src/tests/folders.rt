@@ -1,6 +1,4 @@
 // Files in real folders, and streams that transfer as many bytes as they like.
 mod folder;
-mod puts;
-mod runs;
 mod streams;
 mod wanted;

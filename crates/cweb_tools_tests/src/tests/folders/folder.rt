@@ -1,8 +1,7 @@
-// Bins of a real folder. Only one function owns the path and one the bins.
-use super::puts::*;
-use super::runs::tangle_twice;
-use super::wanted::holds;
-use cweb_out::Bins;
+// A file of a real folder. Outputs and drafts of other kinds are tested with `ctangle` (`tests/draft_cases.py`, `tests/output_cases.py`).
+use super::wanted::*;
+use cweb_lines::write_all;
+use cweb_out::{BinFault, Bins};
 use cweb_tools::{FileSet, FolderBins, StdFolder};
 use std::process::Abort;
 use std::rt::{Env, Files};
@@ -24,111 +23,62 @@ fn new_folder_in(rt: &(impl Abort + Files + AllocGlobal), top: &str) -> Option<S
     None
 }
 
-/// A step with the bins of a folder.
-#[derive(Drop)]
-enum Step {
-    PutFiles,
-    AbandonDraft,
-    PutOnImpossiblePaths,
-    PutOnAFullDevice,
-    PutOverLeftDraft,
-    PutOverLinkedDraft,
-    PutAgain,
-    TangleTwice,
-    // the expected failure count
-    HasFailed(u64),
-}
-
-impl Step {
-    fn take<B: Bins>(
-        &self,
-        rt: &(impl Abort + Env + Files + AllocGlobal),
-        bins: &mut B,
-        folder: &str,
-    ) {
-        match self {
-            Step::PutFiles => put_files(rt, bins, folder),
-            Step::AbandonDraft => abandon_draft(rt, bins, folder),
-            Step::PutOnImpossiblePaths => put_on_impossible_paths(rt, bins, folder),
-            Step::PutOnAFullDevice => put_on_a_full_device(rt, bins),
-            Step::PutOverLeftDraft => put_over_left_draft(rt, bins, folder),
-            Step::PutOverLinkedDraft => put_over_linked_draft(rt, bins, folder),
-            Step::PutAgain => put_again(rt, bins, folder),
-            Step::TangleTwice => tangle_twice(rt, bins, folder),
-            Step::HasFailed(count) => holds(rt, bins.failures() == *count),
-        }
+/// Writes a draft. If a write fails, it is abandoned.
+fn write_draft<B: Bins>(bins: &mut B, path: &str, text: &[u8]) -> Result<(), BinFault> {
+    if bins.failures() > 1000 {
+        return Err(BinFault::Memory);
     }
-}
-
-/// Runs steps with bins of their own, while the bins of the earlier steps still exist.
-fn run_after<B: Bins + Drop>(
-    rt: &(impl Abort + Env + Files + AllocGlobal),
-    bins: (B, B),
-    folder: &str,
-    before: &[Step],
-    steps: &[Step],
-) {
-    let (mut first, mut second) = bins;
-    run(rt, &mut first, folder, before);
-    run(rt, &mut second, folder, steps);
-    drop(second);
-    drop(first);
-}
-
-fn new_bins(host: &HostRuntime) -> FolderBins<StdFolder<&HostRuntime>> {
-    let fs = StdFolder::with_streams(host.alloc(), host);
-    FolderBins::new(host.alloc(), fs, FileSet::new(host.alloc()))
-}
-
-fn run<B: Bins>(
-    rt: &(impl Abort + Env + Files + AllocGlobal),
-    bins: &mut B,
-    folder: &str,
-    steps: &[Step],
-) {
-    for step in steps {
-        step.take(rt, bins, folder);
+    bins.start_file(path)?;
+    if bins.failures() > 1000 {
+        return Err(BinFault::Memory);
     }
+    if write_all(bins, text).is_err() {
+        bins.abandon_file();
+        return Err(BinFault::Device);
+    }
+    Ok(())
 }
 
-/// Runs the steps in a new folder.
-fn check(
-    host: &HostRuntime,
-    rt: &(impl Abort + Env + Files + AllocGlobal),
-    before: &[Step],
-    steps: &[Step],
-) {
+/// Writes and commits a file.
+fn put<B: Bins>(bins: &mut B, path: &str, text: &[u8]) -> Result<(), BinFault> {
+    write_draft(bins, path, text)?;
+    if bins.failures() > 1000 {
+        return Err(BinFault::Memory);
+    }
+    bins.commit_file()
+}
+
+/// The file has these contents, and no draft.
+fn check_file(rt: &(impl Abort + Files + AllocGlobal), path: &str, text: &[u8]) {
+    let held = fs::read(rt, path).expect(rt, "a file");
+    same_bytes(rt, &held, text);
+    let draft = joined(rt, &[path, "\u{7f}"]);
+    holds_of(rt, fs::symlink_metadata(rt, draft.as_str()).is_err(), path);
+}
+
+/// A file is replaced by contents that are longer than the buffer, and left as it is by a draft that is abandoned.
+fn check_bins<B: Bins>(rt: &(impl Abort + Files + AllocGlobal), bins: &mut B, path: &str) {
+    let large = "x".repeat(rt.alloc(), 200_000).expect(rt, "memory");
+    holds(rt, put(bins, path, b"old").is_ok());
+    check_file(rt, path, b"old");
+    holds(rt, put(bins, path, large.as_bytes()).is_ok());
+    holds(rt, write_draft(bins, path, b"lost").is_ok());
+    bins.abandon_file();
+    check_file(rt, path, large.as_bytes());
+    holds(rt, bins.failures() == 0);
+}
+
+/// Checks the bins in a new folder.
+fn check_in_folder<B: Bins>(rt: &(impl Abort + Env + Files + AllocGlobal), bins: &mut B) {
     let folder = new_folder(rt);
-    let bins = (new_bins(host), new_bins(host));
-    run_after(rt, bins, folder.as_str(), before, steps);
+    let path = joined(rt, &[folder.as_str(), "/a.c"]);
+    check_bins(rt, bins, path.as_str());
     fs::remove_dir_all(rt, folder.as_str()).expect(rt, "the folder");
 }
 
 #[test]
 fn files_of_a_folder_are_replaced_whole(rt: HostRuntime) {
-    const STEPS: &[Step] = &[
-        Step::PutFiles,
-        Step::AbandonDraft,
-        Step::PutOnImpossiblePaths,
-        Step::PutOnAFullDevice,
-        Step::HasFailed(4),
-    ];
-    check(&rt, &rt, &[], STEPS);
-}
-
-#[test]
-fn drafts_of_others_are_never_written(rt: HostRuntime) {
-    const STEPS: &[Step] = &[
-        Step::PutOverLeftDraft,
-        Step::PutOverLinkedDraft,
-        Step::HasFailed(0),
-        Step::PutAgain,
-        Step::HasFailed(2),
-    ];
-    check(&rt, &rt, &[Step::PutFiles], STEPS);
-}
-
-#[test]
-fn two_runs_over_the_same_bins(rt: HostRuntime) {
-    check(&rt, &rt, &[], &[Step::TangleTwice, Step::HasFailed(0)]);
+    let fs = StdFolder::with_streams(rt.alloc(), &rt);
+    let mut bins = FolderBins::new(rt.alloc(), fs, FileSet::new(rt.alloc()));
+    check_in_folder(&rt, &mut bins);
 }
