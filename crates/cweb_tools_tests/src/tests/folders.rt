@@ -1,4 +1,5 @@
 // Files in real folders, and streams that transfer as many bytes as they like.
 mod folder;
+mod runs;
 mod streams;
 mod wanted;

@@ -1,4 +1,5 @@
 // A file of a real folder. Outputs and drafts of other kinds are tested with `ctangle` (`tests/draft_cases.py`, `tests/output_cases.py`).
+use super::runs::tangle_twice;
 use super::wanted::*;
 use cweb_lines::write_all;
 use cweb_out::{BinFault, Bins};
@@ -68,11 +69,12 @@ fn check_bins<B: Bins>(rt: &(impl Abort + Files + AllocGlobal), bins: &mut B, pa
     holds(rt, bins.failures() == 0);
 }
 
-/// Checks the bins in a new folder.
+/// Checks the bins in a new folder, and two runs over them.
 fn check_in_folder<B: Bins>(rt: &(impl Abort + Env + Files + AllocGlobal), bins: &mut B) {
     let folder = new_folder(rt);
     let path = joined(rt, &[folder.as_str(), "/a.c"]);
     check_bins(rt, bins, path.as_str());
+    tangle_twice(rt, bins, folder.as_str());
     fs::remove_dir_all(rt, folder.as_str()).expect(rt, "the folder");
 }
 
