@@ -1,7 +1,7 @@
 -- Lines that pass through are taken and emitted one by one.
 use Rattle.cweb_lines.proofs.Common.{◌≡◌, ◌≤◌, ◌<◌, ◌+◌, ◌-◌, ℕ, zero, suc, Bool, List, [], ◌∷◌, ◌++◌, length, map, take, Option, Some, None, refl, sym, ◌∙◌, ap, arith, length-append, length-map, Place, WaitingEntry, World, SourceLine, numbered_lines, trimmed, Event, Thing, took, emitted, raws, AllPassThrough, IsStretchAt, line_with_newline, lines_next, trimmed_with_newlines, sources_next, with_newlines, all_but_last, OnlyLastExceeds, stretch_bytes, matches_at, number_or_zero, source_depth, AreShort, emitted_lines, openings, size_of_lines, taken_lines, reported_faults, merge, written_lines, Stretch, OpenSource}
 use Rattle.cweb_lines.proofs.Merges.{merge_emitted, state}
-use Rattle.cweb_input.proofs.TrimmedLines.{trimmed-length}
+use Rattle.cweb_lines.proofs.TrimmedLines.{trimmed-length}
 
 abbrev pub events_of : List SourceLine → List Event
 events_of [] = []

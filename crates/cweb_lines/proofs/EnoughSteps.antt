@@ -1,6 +1,6 @@
 -- The events of a merge don't depend on the number of steps.
 use Rattle.std.proofs.Common.{◌≡◌, ℕ, zero, suc, List, [], ◌++◌, Option, Some, None, refl, sym, ◌∙◌, ap, unwrap_or, arith}
-use Rattle.cweb_input.specs.Include.{World}
+use Rattle.cweb_lines.specs.Include.{World}
 use Rattle.cweb_lines.specs.Events.{Event}
 use Rattle.cweb_lines.specs.Merge.{MergeStateModel, Next, step, onto, step_then_run, run_steps, Yields}
 use Rattle.cweb_lines.specs.surface.EnoughSteps.{enough_steps, merge}

@@ -4,10 +4,10 @@ use Rattle.std.specs.Prelude.{nat_lt}
 use Rattle.std.specs.Str.{bytes_eq}
 use Rattle.std.proofs.lemmas.Bool.Decides.{nat_tests}
 use Rattle.cweb_files.specs.declared.place.Place.{Place}
-use Rattle.cweb_input.specs.Lines.{CutLine, SourceLine, numbered_lines, cut_lines, trimmed, RawLine, Thing, seek, raw, reported, passed, raws}
-use Rattle.cweb_input.specs.Include.{World, Found, include_name, is_include_line, found_at}
+use Rattle.cweb_lines.specs.Lines.{CutLine, SourceLine, numbered_lines, cut_lines, trimmed, RawLine, Thing, seek, raw, reported, passed, raws}
+use Rattle.cweb_lines.specs.Include.{World, Found, include_name, is_include_line, found_at}
 use Rattle.cweb_lines.specs.Change.{change_code, WaitingEntry, Sought, sought, outside, after_x, OldSide, old_at, dropping, old_lines}
-use Rattle.cweb_input.specs.declared.limits.TheConstants.{OPEN_FILES}
+use Rattle.cweb_lines.specs.declared.limits.TheConstants.{OPEN_FILES}
 use Rattle.cweb_lines.specs.declared.change.code.Code.{Code}
 use Rattle.cweb_lines.specs.declared.change.code.Code.TheVariants.{OldSide as old_side, NewSide as new_side, EndSide as end_side}
 use Rattle.cweb_lines.specs.Events.{Event}

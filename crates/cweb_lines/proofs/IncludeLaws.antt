@@ -2,7 +2,7 @@
 use Rattle.cweb_lines.proofs.Common.{rules, ◌≡◌, ◌≢◌, ◌<◌, ◌+◌, ℕ, Bool, true, false, List, [], ◌∷◌, ◌++◌, None, Some, refl, ◌∙◌, ap, append-nil, subst, arith, length, nat_tests, AllByRecursion, nat_lt, SourceLine, lines_in, World, include_name, is_include_line, at_place, IncludeLinesAreReplaced, Includes, LinesComeApart, MergeOutcome, followed_by, outcome_of_events, outcome_of_lines, Event, Next, RawLine, MergeStateModel, Thing, fault, emitted, included, obeyed, open_include, opening, plain, raw, raws, taking, took, openings, merge, merge_yields, merge_end, merge_next, NoName, NotThere, TooDeep, OPEN_FILES}
 use Rattle.cweb_lines.proofs.IndependentLines.{IsNoSearch, prefix, raws_seek_not}
 use Rattle.cweb_lines.proofs.Merges.{state}
-use Rattle.cweb_input.proofs.SourceStacks.{raws-append}
+use Rattle.cweb_lines.proofs.SourceStacks.{raws-append}
 use Rattle.cweb_lines.proofs.OutcomeOfEvents.{name_first, seen-append}
 
 pub raws_seek_none : (depth : ℕ) (may_match : Bool) (lines : List SourceLine)

@@ -1,6 +1,6 @@
 -- Adjacent lines in the buffer, and the lines of the source that they are.
 use Rattle.cweb_lines.proofs.Common.{◌≡◌, ◌≤◌, ◌<◌, ◌+◌, ◌-◌, ℕ, Bool, List, [], ◌∷◌, ◌++◌, length, map, take, drop, Option, Some, None, refl, sym, ◌∙◌, ap, arith, take-add, take-append-add, append-nil, append_assoc, append_cancel_right, drop-drop, length-append, length-map, length-take, map-append, take-take, take_all, slice_range, IfSome, WaitingEntry, SplitsAt, CutLine, numbered_lines, cut_lines, trimmed, AllPassThrough, HasRoomFor, IsStretch, OnlyLastExceeds, PassesThrough, Reaches, IsStretchOf, line_with_newline, trimmed_with_newlines, sources_next, with_newlines, all_but_last, buffered, lines_at, TakenCounters, LINES, BYTES, Stretch, OpenSource}
-use Rattle.cweb_input.proofs.Newlines.{after_newline, text_lines-full}
+use Rattle.cweb_lines.proofs.Newlines.{after_newline, text_lines-full}
 
 pub standing-append : (a b : List (List ℕ)) → with_newlines (a ++ b) ≡ with_newlines a ++ with_newlines b
 standing-append [] b = refl

@@ -1,10 +1,10 @@
 -- Lookahead at consecutive lines in the buffer.
 use Rattle.cweb_lines.proofs.Common.{rules, ◌≡◌, ◌≤◌, ◌<◌, ◌+◌, ℕ, List, [], ◌∷◌, ◌++◌, length, map, Option, None, Some, refl, ◌∙◌, ap, arith, append_cancel_right, length-append, length-map, map-append, slice_range, IfSome, Place, FitsLimits, FitsLimitsAt, IsAhead, LooksAhead, LooksAheadIn, WaitingEntry, BorrowsLines, line_span_at, Line, SourceLine, numbered_lines, trimmed, pending_of, so_far_of, ComesNext, EmitsBufferedLines, HasRoomFor, IsStretch, Reaches, IsStretchAt, IsStretchOf, OnlyLastExceeds, line_with_newline, lines_next, top_of, IsSettled, floor_of, TakenCounters, LINES, Ahead, LineSpan, Stretch, MergeState, OpenSource, common_steps}
 use Rattle.cweb_lines.proofs.ReportsOnlyGrow.{grows_reported, reported_emitted, reported_then}
-use Rattle.cweb_input.proofs.SourceStacks.{most_at}
+use Rattle.cweb_lines.proofs.SourceStacks.{most_at}
 use Rattle.cweb_lines.proofs.LinesInBuffer.{few_lines, joined, numbered-append}
 use Rattle.cweb_lines.proofs.EmittedLinesAddUp.{yields_both}
-use Rattle.cweb_input.proofs.TrimmedLines.{trimmed-length, trimmed-line}
+use Rattle.cweb_lines.proofs.TrimmedLines.{trimmed-length, trimmed-line}
 
 -- One line after others.
 module _ {R : Type 0} (entry : Option WaitingEntry) (text : OpenSource R) (lines : List (List ℕ)) (raw : List ℕ)

@@ -1,5 +1,6 @@
 -- The events to come of a merger, by its stack, stage, files and faults.
-use Rattle.cweb_lines.proofs.Common.{rules, OnlyOpens, OnlyReports, Some, Bool, true, false, if◌then◌else◌, ◌≡◌, ◌≤◌, ◌<◌, ◌+◌, ◌-◌, ℕ, zero, suc, get_or, List, [], ◌∷◌, ◌++◌, Option, None, refl, ◌∙◌, ap, arith, length, length-append, le-max_left, le-max_right, max-le, Place, WaitingEntry, at_place, World, optional_string_bytes, SourceLine, lines_in, Event, Thing, fault, raws, EmitsLines, NothingLeft, events_to_come, so_far_of, things_of, opened_file_names, IsSettled, change_in, files_begun, stage_for, floor_of, pending_in, things_below, things_in, TakenCountersModel, OpensSource, StaysBelow, StopsAbove, TakesAbove, TakesFirst, TopStops, lines_at, lines_left, things_above, merge, merge_end, merge_next, SourceFault, NoMatch, MergeState, Stack, Change, Stage, Seeking, Waiting, Changing, Stop, LineAt, OpenSource, over-none, common_steps}
+use Rattle.cweb_lines.proofs.Common.{rules, OnlyOpens, OnlyReports, Some, Bool, true, false, if◌then◌else◌, ◌≡◌, ◌≤◌, ◌<◌, ◌+◌, ◌-◌, ℕ, zero, suc, get_or, List, [], ◌∷◌, ◌++◌, Option, None, refl, ◌∙◌, ap, arith, length, length-append, le-max_left, le-max_right, max-le, Place, WaitingEntry, at_place, World, optional_string_bytes, SourceLine, lines_in, Event, Thing, fault, raws, EmitsLines, NothingLeft, events_to_come, so_far_of, things_of, opened_file_names, IsSettled, change_in, files_begun, stage_for, floor_of, pending_in, things_below, things_in, TakenCountersModel, OpensSource, StaysBelow, StopsAbove, TakesAbove, TakesFirst, TopStops, lines_at, lines_left, things_above, merge, merge_end, merge_next, SourceFault, NoMatch, MergeState, Stack, Change, Stage, Seeking, Waiting, Changing, Stop, LineAt, OpenSource, common_steps}
+use Rattle.cweb_lines.proofs.SourceStacks.{over-none}
 use Rattle.cweb_lines.specs.inner.Stages.{files_of_faults}
 use Rattle.cweb_lines.proofs.Merges.{state, yields_fault}
 

@@ -2,7 +2,7 @@
 use Rattle.cweb_lines.proofs.Common.{rules, ◌≡◌, ◌∙◌, ◌++◌, ℕ, List, [], Some, refl, sym, ap, so_far_of, opened_file_names, Memory, OnlyReports, SourceFault, MergeState, AppendsPassedLines, AreReadersKnown, Line, LineAt, Stop, Result, Ok, Err, IfErr, arith}
 use Rattle.cweb_files.specs.Shelves.{Observed, ShelfContents, ShelfModel}
 use Rattle.cweb_files.specs.declared.place.FileId.{FileId}
-use Rattle.cweb_input.specs.surface.OpenSources.{BlamesFile, ReadsShelf, shelf_after}
+use Rattle.cweb_lines.specs.surface.OpenSources.{BlamesFile, ReadsShelf, shelf_after}
 use Rattle.cweb_lines.specs.inner.StepCalls.{KeepsReaders, Obeys, Reads, outcome}
 use Rattle.cweb_lines.specs.surface.MergeProgress.{KeepsReported}
 use Rattle.cweb_lines.specs.surface.MergerCalls.{KnowsReaders, StaysKnown}

@@ -1,7 +1,7 @@
 -- One change and the lines around it.
 use Rattle.cweb_lines.proofs.Common.{◌≡◌, ◌≢◌, ◌&&◌, ℕ, true, false, List, [], ◌∷◌, ◌++◌, map, None, Some, refl, ◌∙◌, ap, append-nil, append_assoc, bytes_eq-Decides, list_any, bytes_eq, SourceLine, World, is_include_line, WaitingEntry, OldSide, change_code, is_change_code, followed_by, only_lines, outcome_of_events, Event, NewSide, Next, RawLine, Thing, after_old, at_entry, change_events, old_lines, passed, raw, raws, seek, taking, took, merge, merge_next, arith}
 use Rattle.cweb_lines.specs.declared.change.code.Code.TheVariants.{EndSide as end_side, NewSide as new_side, OldSide as old_side}
-use Rattle.cweb_input.proofs.SourceStacks.{raws-append}
+use Rattle.cweb_lines.proofs.SourceStacks.{raws-append}
 use Rattle.cweb_lines.proofs.Merges.{state}
 use Rattle.cweb_lines.proofs.OutcomeOfEvents.{seek_unseen, took_unseen}
 use Rattle.cweb_lines.proofs.Entries.{Splits, bytes_in, entry_of, finds, yields_out, lines_of, new_splits, old_splits, passes_by}

@@ -1,6 +1,6 @@
 -- Definitions that only proofs cite.
 use Rattle.std.specs.Prelude.{◌≡◌, ◌<◌, ◌++◌, ℕ, List, [], length}
-use Rattle.cweb_input.specs.Lines.{Line}
+use Rattle.cweb_lines.specs.Lines.{Line}
 use Rattle.cweb_lines.specs.Events.{Event, written_lines}
 use Rattle.cweb_lines.specs.surface.MergeProgress.{SoFar, EmitsLines}
 use Rattle.cweb_lines.specs.Change.{Sought}

@@ -1,10 +1,10 @@
 -- The events of a merge by kind, the limits on the lines that it takes, and the written lines.
 use Rattle.std.specs.Prelude.{◌≡◌, ℕ, ◌+◌, ◌≤◌, List, [], ◌∷◌, ◌++◌, length}
-use Rattle.cweb_input.specs.OpenSources.{TakenCountersModel, RefusesLine}
-use Rattle.cweb_input.specs.declared.stop.Stop.{Stop}
-use Rattle.cweb_input.specs.Lines.{Line, SourceLine}
-use Rattle.cweb_input.specs.declared.fault.SourceFault.{SourceFault}
-use Rattle.cweb_input.specs.declared.limits.TheConstants.{LINES, BYTES, LINE_LENGTH}
+use Rattle.cweb_lines.specs.OpenSources.{TakenCountersModel, RefusesLine}
+use Rattle.cweb_lines.specs.declared.stop.Stop.{Stop}
+use Rattle.cweb_lines.specs.Lines.{Line, SourceLine}
+use Rattle.cweb_lines.specs.declared.fault.SourceFault.{SourceFault}
+use Rattle.cweb_lines.specs.declared.limits.TheConstants.{LINES, BYTES, LINE_LENGTH}
 
 -- An event: a line is taken from its file, a merged line is emitted, a fault is reported, or a file is opened.
 pub data Event : Type 0 where

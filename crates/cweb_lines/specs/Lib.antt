@@ -1,3 +1,6 @@
+pub mod Include
+pub mod Lines
+pub mod OpenSources
 pub mod Events
 pub mod Change
 pub mod Merge
@@ -5,7 +8,3 @@ pub mod surface
 pub mod laws
 pub mod inner
 pub use Rattle.cweb_files.specs.Shelves
-pub use Rattle.cweb_input.specs.Include
-pub use Rattle.cweb_input.specs.Lines
-pub use Rattle.cweb_input.specs.surface.OpenedFileNames
-pub use Rattle.cweb_input.specs.OpenSources

@@ -3,23 +3,28 @@ ghost use Rattle.std.specs.Prelude.{◌≡◌, ◌≤◌, ◌<◌, ◌+◌, ◌^
 ghost use Rattle.std.specs.Prelude.{IfSome, None, Some, All};
 ghost use Rattle.std.specs.Option.{option_copied};
 ghost use Rattle.cweb_files.specs.Shelves.{Observed};
-ghost use Rattle.cweb_input.specs.Include.{web_at, change_at};
+ghost use Rattle.cweb_lines.specs.Include.{web_at, change_at};
 ghost use Rattle.cweb_lines.specs.inner.Ahead.{IsSpanIn, span_bytes};
-ghost use Rattle.cweb_input.specs.surface.OpenedFileNames.{opened_file_names};
+ghost use Rattle.cweb_lines.specs.surface.OpenedFileNames.{opened_file_names};
 ghost use Rattle.cweb_lines.specs.inner.Passing.{AppendsPassedLines};
-ghost use Rattle.cweb_input.specs.surface.OpenSources.{StartStops, files_named};
+ghost use Rattle.cweb_lines.specs.surface.OpenSources.{StartStops, files_named};
 ghost use Rattle.cweb_lines.specs.surface.MergerCalls.{AreReadersKnown};
 
 pub mod ahead;
 
+use crate::counters::TakenCounters;
+use crate::fault::SourceFault;
+use crate::files::FileNames;
+use crate::files::find::{find_change, find_web};
 use crate::merge_state::MergeState;
 use crate::open::{first_stage, open_change, open_web, owned};
+use crate::open_source::stack::Stack;
 use crate::passing::line_span::LineSpan;
 use crate::step::Turn;
 use crate::step::turning::take_turn;
+use crate::stop::Stop;
 use crate::writing::pass::pass_lines;
 use cweb_files::{Place, Shelf};
-use cweb_input::{FileNames, SourceFault, Stack, Stop, TakenCounters, find_change, find_web};
 use std::alloc::{AllocError, Global};
 
 /// A web that is being merged. Each call gets the shelf as the previous call left it.

@@ -1,20 +1,21 @@
 // How a merger begins: the web and the change file are opened, and nothing is read.
-ghost use Rattle.std.specs.Prelude.{◌≡◌, ◌≤◌, ◌++◌, ◌∷◌, ℕ, List, [], length, string_bytes, IfOk};
-ghost use Rattle.std.specs.Prelude.{IfErr, OnOk, true};
+ghost use Rattle.std.specs.Prelude.{◌≡◌, ◌≤◌, ◌++◌, ◌∷◌, ℕ, List, [], length, string_bytes, IfOk, IfErr, OnOk, true};
 ghost use Rattle.std.specs.Option.{option_copied};
-ghost use Rattle.cweb_input.specs.surface.OpenedFileNames.{optional_string_bytes};
-ghost use Rattle.cweb_input.specs.surface.OpenedFileNames.{opened_file_names};
-ghost use Rattle.cweb_input.specs.inner.Finding.{found_as, lines_found, IsOpened};
-ghost use Rattle.cweb_input.specs.Include.{names_found};
-ghost use Rattle.cweb_input.specs.Lines.{lines_in};
+ghost use Rattle.cweb_lines.specs.surface.OpenedFileNames.{optional_string_bytes, opened_file_names};
+ghost use Rattle.cweb_lines.specs.inner.Finding.{found_as, lines_found, IsOpened};
+ghost use Rattle.cweb_lines.specs.Include.{names_found};
+ghost use Rattle.cweb_lines.specs.Lines.{lines_in};
 ghost use Rattle.cweb_lines.specs.inner.Stages.{stage_for, begun_stage};
-ghost use Rattle.cweb_input.specs.surface.OpenSources.{lines_left, lines_at, number_or_zero};
-ghost use Rattle.cweb_input.specs.surface.OpenSources.{IsReaderNamed};
-ghost use Rattle.cweb_input.specs.inner.OpenSources.{line_number, files_up_to};
+ghost use Rattle.cweb_lines.specs.surface.OpenSources.{lines_left, lines_at, number_or_zero, IsReaderNamed};
+ghost use Rattle.cweb_lines.specs.inner.OpenSources.{line_number, files_up_to};
 
 use crate::change::Stage;
+use crate::files::FileNames;
+use crate::files::find::Opening;
+use crate::open_source::OpenSource;
+use crate::source::Source;
+use crate::stop::Stop;
 use cweb_files::FileId;
-use cweb_input::{FileNames, OpenSource, Opening, Source, Stop};
 use std::alloc::{AllocError, Global};
 
 /// A copy of a name, if there is one.

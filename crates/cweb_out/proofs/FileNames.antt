@@ -1,10 +1,10 @@
 -- There is at most one output more than names.
 use Rattle.cweb_out.proofs.Common.{◌≡◌, ◌≤◌, ◌<◌, ◌+◌, ℕ, suc, Bool, true, false, List, [], ◌∷◌, arith, length, Option, Some, None, inl, inr, All, list_any, length-map, NameId, is_id, Stored, names, file_outputs, outputs, AreNew, or_cases}
 use Rattle.std.specs.Prelude.{if◌then◌else◌}
-use Rattle.cweb_names.specs.Names.{Occurrence, Resolution, with_id, with_file, resolved_at}
-use Rattle.cweb_names.specs.inner.Known.{files_from}
-use Rattle.cweb_names.proofs.Terms.{with_some}
-use Rattle.cweb_names.specs.Names as spec
+use Rattle.cweb_store.specs.Names.{Occurrence, Resolution, with_id, with_file, resolved_at}
+use Rattle.cweb_store.specs.inner.Known.{files_from}
+use Rattle.cweb_store.proofs.Terms.{with_some}
+use Rattle.cweb_store.specs.Names as spec
 use Rattle.cweb_store.proofs.BoundLemmas.{files-within}
 use Rattle.cweb_out.proofs.Paths.{new-push, is-same}
 use Rattle.cweb_out.proofs.Ranks.{few}

@@ -1,7 +1,7 @@
 -- The first use in a list and in a frame's suffix.
 use Rattle.cweb_out.proofs.Common.{◌≡◌, ◌<◌, ◌||◌, true, false, List, [], ◌∷◌, ◌++◌, length, refl, sym, ◌∙◌, ap, arith, append_assoc, length-append, list_any, list_any-append, flat_map-append, Part, Token, Stored, uses, use_of, suffix, Frame, PassesNoUse}
 use Rattle.cweb_store.specs.inner.Records.{is_name_use}
-use Rattle.cweb_print.specs.surface.Printed.{tokens_of_part}
+use Rattle.cweb_out.specs.surface.Printed.{tokens_of_part}
 use Rattle.cweb_store.specs.Parts as spec
 
 none-append : (ts us : List Token) → list_any is_name_use ts ≡ false

@@ -1,9 +1,9 @@
 -- The laws of expansion and printing.
 use Rattle.cweb_out.proofs.Common.{◌≡◌, ◌≤◌, ◌+◌, ◌-◌, ◌==◌, ℕ, zero, suc, Bool, true, false, cond, List, [], ◌∷◌, ◌++◌, refl, sym, ◌∙◌, ap, arith, append_assoc, append-nil, Option, None, Some, codes, fold, flat_map, option_to_list, list_all, flat_map-append, NameId, Token, Newline, Defs, Name, Stored, joined, resolved_use, uses, use_of, ends_below, expand, expanded_name, put, option_map_or, last_is, sep, Setting, file, file_token_bytes, without_joined_layout, last_token, left_after, macro_line, macro_lines, mark_line, print, print_after, starts_line, stays_joined, Class, separator, ReplacesUses, is_no_use, print_following, is_whole_lines, and_parts}
 use Rattle.cweb_store.specs.Parts.{Mark}
-use Rattle.cweb_print.specs.declared.printer.class.Class.TheVariants as class
+use Rattle.cweb_out.specs.declared.printer.class.Class.TheVariants as class
 use Rattle.cweb_out.proofs.Ranks.{all-append, all-parts, rank-grows, uses-weaker}
-use Rattle.cweb_print.proofs.Steps.{sep_by_class}
+use Rattle.cweb_out.proofs.Steps.{sep_by_class}
 
 text_for-text : (f : NameId → List Token) (o : Option NameId)
     → ((n : NameId) → list_all is_no_use (f n) ≡ true) → list_all is_no_use (option_map_or f o []) ≡ true

@@ -1,9 +1,9 @@
 -- Worked examples of plans.
 use Rattle.cweb_out.proofs.Common.{ℕ, ◌≡◌, List, [], ◌∷◌, Some, codes, true, false, Err, id, Token, Punct, Name, Stored, program, ends_below, has_rank, list_ends, first_endless, name_rank, cycle_from, cycle, planned_ending}
-use Rattle.cweb_names.specs.declared.name.How.TheVariants.{Full}
+use Rattle.cweb_store.specs.declared.name.How.TheVariants.{Full}
 use Rattle.cweb_store.specs.declared.parts.PartKind.{PartKind}
 use Rattle.cweb_store.specs.declared.parts.PartKind.TheVariants.{Unnamed, Named}
-use Rattle.cweb_names.specs.Names.{Occurrence}
+use Rattle.cweb_store.specs.Names.{Occurrence}
 use Rattle.cweb_store.specs.Parts.{Part}
 
 abbrev full : List ℕ → Occurrence

@@ -1,10 +1,10 @@
 -- Prefixes of the remaining tokens that were printed in order.
 use Rattle.cweb_out.proofs.Common.{◌≡◌, ◌++◌, ◌∙◌, [], refl, sym, ap, subst, append_assoc, ℕ, List, ◌&&◌, list_all, Stored, Token, Setting, print, AreDirect, is_direct, setting_of, PrintsPrefix, arith}
 use Rattle.std.proofs.lemmas.List.Folds.{list_all-append}
-use Rattle.cweb_print.specs.surface.Printed.{left_after_tokens}
-use Rattle.cweb_print.specs.declared.printer.Printer.{Printer}
-use Rattle.cweb_print.specs.inner.BufferedPrinting.{AddsBytes}
-use Rattle.cweb_print.proofs.DirectPrefixes.{passed_none}
+use Rattle.cweb_out.specs.surface.Printed.{left_after_tokens}
+use Rattle.cweb_out.specs.declared.printer.Printer.{Printer}
+use Rattle.cweb_out.specs.inner.BufferedPrinting.{AddsBytes}
+use Rattle.cweb_out.proofs.DirectPrefixes.{passed_none}
 use Rattle.cweb_out.specs.inner.FrameStacks.{PrintsFrame}
 use Rattle.cweb_out.specs.declared.frame.Frame.{Frame}
 

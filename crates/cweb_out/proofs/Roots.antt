@@ -1,6 +1,6 @@
 -- In a plan, the names that an output's list uses have ranks.
 use Rattle.cweb_out.proofs.Common.{ends_below, list_all, ◌≡◌, ◌<◌, ℕ, zero, suc, Bool, true, false, not, List, [], ◌∷◌, refl, Option, Some, None, map, length, arith, cond, slice_index_or, Result, Ok, Err, find, bytes_eq, get_or-map, length-map, Stored, names, uses, list_ends, Planned, Refusal, bad_name, same_name, cycle, outputs, root_list, output_of, output_name, name_spelling, is_good_name, planned_apart, planned_ending, has_no_program, start_of, root_at, IsPlanOf, cycle_from}
-use Rattle.cweb_names.specs.Names as spec
+use Rattle.cweb_store.specs.Names as spec
 
 abbrev outcome : {A : Type 0} → Option A → (A → Refusal) → Result Planned Refusal → Result Planned Refusal
 outcome found why r = elim found [ Some x ↦ Err (why x) | None ↦ r ]

@@ -2,9 +2,9 @@
 use Rattle.cweb_out.proofs.Common.{◌≡◌, [], ◌≤◌, ◌<◌, ◌+◌, ◌∷◌, ◌++◌, List, Some, length, ℕ, sym, ◌∙◌, ap, arith, false, suc, subst, All, Part, Token, all_tokens, Stored, Frame, defs_first, suffix, PartIsWithin, FrameIsWithin, tokens_of_parts, append_assoc, Defs}
 use Rattle.std.proofs.Common.{◌≢◌, slice_range}
 use Rattle.std.specs.Prelude.{slice_get}
-use Rattle.cweb_print.specs.surface.Printed.{tokens_of_part}
+use Rattle.cweb_out.specs.surface.Printed.{tokens_of_part}
 use Rattle.std.proofs.lemmas.Option.{slice_get-get_or}
-use Rattle.cweb_print.proofs.Ranges.{slice_get-or, slice_range-first}
+use Rattle.cweb_out.proofs.Ranges.{slice_get-or, slice_range-first}
 use Rattle.cweb_store.proofs.RangeLemmas.{range-none, range-split}
 
 -- A frame with a nonempty part begins with the part's first token.

@@ -1,3 +1,5 @@
+pub mod Spacing
+pub mod Printing
 pub mod Expansion
 pub mod Outputs
 pub mod surface

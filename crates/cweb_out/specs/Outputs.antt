@@ -4,8 +4,8 @@ use Rattle.std.specs.Prelude.{bytes_eq, length, Option, Some, None, Result, Ok, 
 use Rattle.std.specs.List.{list_all, list_any, after_last}
 use Rattle.std.specs.Option.{option_map_or, option_or}
 use Rattle.std.specs.Str.{is_utf8}
-use Rattle.cweb_names.specs.declared.name.NameId.{NameId}
-use Rattle.cweb_names.specs.Names as spec
+use Rattle.cweb_store.specs.declared.name.NameId.{NameId}
+use Rattle.cweb_store.specs.Names as spec
 use Rattle.cweb_store.specs.Parts.{Token, Defs, has_defs_code, is_unnamed}
 use Rattle.cweb_store.specs.Parts as parts
 use Rattle.cweb_store.specs.Faults.{has_part}

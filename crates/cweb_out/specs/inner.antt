@@ -1,4 +1,6 @@
 -- Definitions that only the functions of this crate cite.
+pub mod BufferedPrinting
+pub mod Classes
 pub mod FrameStacks
 pub mod Planning
 pub mod Search

@@ -1,6 +1,5 @@
 // The stack machine that yields an output's tokens and expands each name.
-ghost use Rattle.std.specs.Prelude.{◌≡◌, ◌≤◌, ◌<◌, ◌+◌, [], None, Some, length, IfOk};
-ghost use Rattle.std.specs.Prelude.{IfSome, option_map, vec_capacity};
+ghost use Rattle.std.specs.Prelude.{◌≡◌, ◌≤◌, ◌<◌, ◌+◌, [], None, Some, length, IfOk, IfSome, option_map, vec_capacity};
 ghost use Rattle.cweb_store.specs.surface.Tokens.{token_model};
 ghost use Rattle.cweb_store.specs.Parts.{Name};
 ghost use Rattle.cweb_out.specs.Expansion.{names, expand};

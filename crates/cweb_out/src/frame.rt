@@ -6,7 +6,7 @@ ghost use Rattle.cweb_store.specs.Parts.{Name, all_tokens};
 ghost use Rattle.cweb_store.specs.surface.Tokens.{token_model};
 ghost use Rattle.cweb_out.specs.surface.FrameStacks.{PartIsWithin, FrameIsWithin, suffix};
 ghost use Rattle.cweb_out.specs.inner.FrameStacks.{KeepsFrame, PassesNoUse};
-ghost use Rattle.cweb_print.specs.surface.Printed.{tokens_of_part};
+ghost use Rattle.cweb_out.specs.surface.Printed.{tokens_of_part};
 ghost use Rattle.cweb_out.specs.Outputs.{root_list};
 
 pub mod appending;

@@ -1,10 +1,8 @@
 //! Laws of expansion and printing for any web. Each function exists for its contract and does nothing.
 
-ghost use Rattle.cweb_out.specs.laws.Laws.{OnlySectionCommentsComeBetweenJoinedTokens};
-ghost use Rattle.cweb_out.specs.laws.Laws.{DepthAboveTheRankChangesNothing};
-ghost use Rattle.cweb_out.specs.laws.Laws.{ExpansionReplacesUsesAlone, FilesHaveWholeLines};
-ghost use Rattle.cweb_out.specs.laws.Laws.{PrintGoesOn, RanksAreBelowTheNames};
-ghost use Rattle.cweb_out.specs.laws.Laws.{RefusedCyclesAreCycles};
+ghost use Rattle.cweb_out.specs.laws.Laws.{OnlySectionCommentsComeBetweenJoinedTokens, DepthAboveTheRankChangesNothing};
+ghost use Rattle.cweb_out.specs.laws.Laws.{ExpansionReplacesUsesAlone, FilesHaveWholeLines, PrintGoesOn};
+ghost use Rattle.cweb_out.specs.laws.Laws.{RanksAreBelowTheNames, RefusedCyclesAreCycles};
 
 /// Uses are replaced and other tokens stay, in order. From the ranks of its names on, the depth of a list's expansion
 /// changes nothing. Ranks are below the number of names. A refused plan names a cycle of at least two names.

@@ -24,7 +24,7 @@ pub use Rattle.memchr.specs.Find.{IsFirstByte, is_byte2, is_byte3, is_byte}
 pub use Rattle.cweb_rules.specs.Bytes.{is_blank, is_line_end, is_word_byte, begins, starts_section}
 pub use Rattle.cweb_rules.specs.Bytes.{at_line_end, is_delimiter, is_digit, is_gap, is_octal, is_hex}
 pub use Rattle.cweb_rules.specs.Bytes.{is_replacing, starts_number, listed, longest, number_len, continues_number}
-pub use Rattle.cweb_texts.specs.Edges.{first_is, is_one_of}
+pub use Rattle.cweb_rules.specs.Edges.{first_is, is_one_of}
 pub use Rattle.cweb_rules.specs.Codes.{in_c, in_limbo, in_tex, in_macro}
 pub use Rattle.cweb_rules.specs.Constants.{letter, constant, character, escapes, escaped, octal}
 pub use Rattle.cweb_rules.specs.Constants.{after_backslash, is_plain_character, character_at, faulty_size, constant_of}

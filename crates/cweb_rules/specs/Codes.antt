@@ -7,7 +7,7 @@ use Rattle.cweb_rules.specs.declared.effect.Effect.TheVariants.{EmitAt, Faulty}
 use Rattle.cweb_rules.specs.declared.fault.ScanKind.TheVariants.{DoubleAtInLimbo, LetterOutsideLimbo, IgnoredInCText}
 use Rattle.cweb_rules.specs.declared.fault.ScanKind.TheVariants.{DefsInMacro}
 use Rattle.cweb_rules.specs.Bytes.{lower}
-use Rattle.cweb_texts.specs.Edges.{is_one_of}
+use Rattle.cweb_rules.specs.Edges.{is_one_of}
 
 -- A row of the table: letters in lower case, and their effects in TeX, in a macro and in C text.
 pub record CodeEntry : Type 0 where

@@ -7,7 +7,7 @@ use Rattle.cweb_rules.specs.declared.constants.Valued.{Valued}
 use Rattle.cweb_rules.specs.declared.constants.Transliteration.{Transliteration}
 use Rattle.cweb_rules.specs.Bytes.{begins, is_octal, is_hex, is_digit, is_gap, is_replacing, is_line_end}
 use Rattle.cweb_rules.specs.Bytes.{lower}
-use Rattle.cweb_texts.specs.Edges.{is_one_of}
+use Rattle.cweb_rules.specs.Edges.{is_one_of}
 
 -- A character with its code and the bytes that it is written with.
 abbrev pub character : ℕ → ℕ → Option Character

@@ -1,3 +1,4 @@
+pub mod Edges
 pub mod Bytes
 pub mod Codes
 pub mod Items

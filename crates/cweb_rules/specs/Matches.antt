@@ -7,7 +7,7 @@ use Rattle.cweb_rules.specs.declared.end.End.{End}
 use Rattle.cweb_rules.specs.declared.fault.ScanKind.TheVariants.{ImproperHexNumber}
 use Rattle.cweb_rules.specs.Bytes.{is_blank, is_line_end, is_word_byte, is_delimiter, begins, at_line_end}
 use Rattle.cweb_rules.specs.Bytes.{starts_section, listed, longest, number_len, starts_number}
-use Rattle.cweb_texts.specs.Edges.{first_is}
+use Rattle.cweb_rules.specs.Edges.{first_is}
 use Rattle.cweb_rules.specs.declared.effect.Effect.TheVariants.{Named, Faulty}
 use Rattle.cweb_rules.specs.declared.context.Context.{Context}
 use Rattle.cweb_rules.specs.declared.context.Context.TheVariants.{Limbo, TeX, Definition, Macro, CText}

@@ -2,7 +2,7 @@
 ghost use Rattle.std.specs.Prelude.{◌≡◌, ◌≤◌, IsTrue, length, take, true};
 ghost use Rattle.std.specs.List.{prefix_len};
 ghost use Rattle.cweb_rules.specs.Bytes as spec;
-ghost use Rattle.cweb_texts.specs.Edges.{first_is};
+ghost use Rattle.cweb_rules.specs.Edges.{first_is};
 ghost use Rattle.cweb_rules.specs.inner.Rules.{in_class};
 ghost use Rattle.cweb_rules.specs.inner.LineItems.{IsSizeIn};
 

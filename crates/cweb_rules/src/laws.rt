@@ -1,7 +1,7 @@
 // Laws of the rules.
 ghost use Rattle.std.specs.Prelude.{◌≡◌, ◌+◌, ℕ, Bool, true, false, List, ◌∷◌, ◌++◌, codes, length};
 ghost use Rattle.std.specs.List.{list_all};
-ghost use Rattle.cweb_texts.specs.Edges.{first_is};
+ghost use Rattle.cweb_rules.specs.Edges.{first_is};
 ghost use Rattle.cweb_rules.specs.laws.Laws.{JoinsAll, IsToken, continues_lexeme, begins_as};
 ghost use Rattle.cweb_rules.specs.laws.Laws.{is_quiet, FitsAndPays, ItemsEndAtTheirFirstEnd};
 ghost use Rattle.cweb_rules.specs.laws.Laws.{RulesPassBytes};

@@ -1,7 +1,7 @@
 // Punctuators of C text.
 ghost use Rattle.std.specs.Prelude.{◌≡◌, ◌∷◌, []};
 ghost use Rattle.cweb_rules.specs.Bytes.{listed, longest};
-ghost use Rattle.cweb_texts.specs.Edges.{is_one_of};
+ghost use Rattle.cweb_rules.specs.Edges.{is_one_of};
 ghost use Rattle.cweb_rules.specs.inner.Rules.{begins_pair, begins_triple, is_listed, second_is};
 ghost use Rattle.cweb_rules.specs.inner.Rules.{seconds};
 

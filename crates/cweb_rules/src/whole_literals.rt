@@ -1,6 +1,6 @@
 // Fast path for literals that end in their line.
 ghost use Rattle.std.specs.Prelude.{◌≡◌, ◌≤◌, ◌<◌, IfSome, length, false};
-ghost use Rattle.cweb_texts.specs.Edges.{first_is};
+ghost use Rattle.cweb_rules.specs.Edges.{first_is};
 ghost use Rattle.cweb_rules.specs.inner.LineItems.{IsLine};
 ghost use Rattle.cweb_rules.specs.inner.WholeLiterals as spec;
 ghost use Rattle.cweb_rules.specs.inner.WholeLiterals.{closes, ClosesAt, IsUnit};

@@ -1,9 +1,9 @@
 -- A store has at most as many tokens, and as many bytes, as the web has bytes plus lines.
 use Rattle.cweb_scan.proofs.Common.{◌≡◌, ◌≤◌, ℕ, List, [], ◌∷◌, ◌++◌, Option, Some, None, length, map, refl, arith, length-append, option_to_list, Line, Occurrence, Token, Word, Number, Literal, Verbatim, Punct, Part, all_tokens, Replacement, PartsSoFar, all_parts, finished, ScanState, leave, start_state, Reading, lex, newline_prefixed, read_lines, scanned, sum_over, one, spelling_size, occurrence_size, replacement_size, part_size, open_size, parts_size, token_number, stored_bytes, AddsAtMost, web_size, IsBounded, total-append}
-use Rattle.cweb_names.specs.surface.Names.{occurrence_text}
+use Rattle.cweb_store.specs.surface.Names.{occurrence_text}
 use Rattle.cweb_store.specs.surface.Tokens.{token_size}
 use Rattle.cweb_store.specs.surface.Tokens as kept
-use Rattle.cweb_texts.specs.surface.StringTables as words
+use Rattle.cweb_store.specs.surface.StringTables as words
 use Rattle.cweb_scan.proofs.Adding.{adds, expected_some}
 use Rattle.cweb_scan.proofs.Walked.{run-walks}
 use Rattle.cweb_scan.proofs.Moves.{leave-walks}

@@ -19,13 +19,13 @@ pub use Rattle.std.specs.List.{fold, prefix_len, flat_map, list_all, slice_get}
 pub use Rattle.std.specs.Option.{is_some}
 pub use Rattle.std.specs.Prelude.{IsTrue, option_to_list, if◌then◌else◌, codes, nat_lt, bytes_eq, option_map, All}
 pub use Rattle.cweb_files.specs.declared.place.Place.{Place}
-pub use Rattle.cweb_input.specs.Lines.{Line}
-pub use Rattle.cweb_input.specs.declared.limits.TheConstants.{LINES, BYTES}
-pub use Rattle.cweb_input.specs.declared.open_source.OpenSource.{OpenSource}
-pub use Rattle.cweb_input.specs.declared.stop.Stop.{Stop}
-pub use Rattle.cweb_input.specs.declared.stop.Stop.TheVariants.{ReadFault, LineTooLong, TooMuchText, Memory}
-pub use Rattle.cweb_input.specs.surface.OpenedFileNames.{HasNoNewline, opened_file_names}
-pub use Rattle.cweb_input.specs.surface.OpenSources.{StopsFor}
+pub use Rattle.cweb_lines.specs.Lines.{Line}
+pub use Rattle.cweb_lines.specs.declared.limits.TheConstants.{LINES, BYTES}
+pub use Rattle.cweb_lines.specs.declared.open_source.OpenSource.{OpenSource}
+pub use Rattle.cweb_lines.specs.declared.stop.Stop.{Stop}
+pub use Rattle.cweb_lines.specs.declared.stop.Stop.TheVariants.{ReadFault, LineTooLong, TooMuchText, Memory}
+pub use Rattle.cweb_lines.specs.surface.OpenedFileNames.{HasNoNewline, opened_file_names}
+pub use Rattle.cweb_lines.specs.surface.OpenSources.{StopsFor}
 pub use Rattle.cweb_lines.proofs.EmittedLinesAddUp.{yields_both}
 pub use Rattle.cweb_lines.specs.Events.{emitted_lines, Event}
 pub use Rattle.cweb_lines.specs.declared.merge_state.MergeState.{MergeState}
@@ -36,10 +36,10 @@ pub use Rattle.cweb_lines.specs.inner.Passing.{lines_next, with_newlines, top_of
 pub use Rattle.cweb_lines.specs.surface.MergeProgress.{SoFar, so_far_of, KeepsReported, Stopped, events_to_come}
 pub use Rattle.cweb_lines.specs.surface.MergerCalls.{EmitsLine, Grows, StopsThere, so_far, to_come, KnowsReaders}
 pub use Rattle.cweb_lines.specs.surface.MergerCalls.{stop_in}
-pub use Rattle.cweb_names.specs.Names.{squeezed_after, squeezed, is_abbreviation, Occurrence}
-pub use Rattle.cweb_names.specs.declared.name.How.TheVariants.{Full, Prefix}
-pub use Rattle.cweb_names.specs.declared.name.NameRef.{NameRef}
-pub use Rattle.cweb_names.specs.surface.Names.{too_many}
+pub use Rattle.cweb_store.specs.Names.{squeezed_after, squeezed, is_abbreviation, Occurrence}
+pub use Rattle.cweb_store.specs.declared.name.How.TheVariants.{Full, Prefix}
+pub use Rattle.cweb_store.specs.declared.name.NameRef.{NameRef}
+pub use Rattle.cweb_store.specs.surface.Names.{too_many}
 pub use Rattle.cweb_rules.proofs.FirstBytes.{if_true}
 pub use Rattle.cweb_rules.proofs.InLines.{IsLine-drop, IsLine-take}
 pub use Rattle.cweb_rules.proofs.LineLiterals.{is_quoted-size}
@@ -50,7 +50,7 @@ pub use Rattle.cweb_rules.proofs.UnitNewlines.{drop-sum, Tells, ends-append}
 pub use Rattle.cweb_rules.proofs.Walks.{punctuator_fits}
 pub use Rattle.cweb_rules.specs.Bytes.{begins, starts_section, is_blank, is_line_end, is_digit, is_word_byte}
 pub use Rattle.cweb_rules.specs.Bytes.{at_line_end, is_white, listed, longest, number_len, starts_number}
-pub use Rattle.cweb_texts.specs.Edges.{first_is}
+pub use Rattle.cweb_rules.specs.Edges.{first_is}
 pub use Rattle.cweb_rules.specs.Codes.{in_tex, in_macro, in_c}
 pub use Rattle.cweb_rules.specs.Items.{reach_size, Reach, body, with_unit, reach_in, reach, unescaped, look_in_raw}
 pub use Rattle.cweb_rules.specs.Items.{look_in_literal, look_in_comment, unit_bytes, look_in_name, look_in_control}
@@ -100,7 +100,7 @@ pub use Rattle.cweb_store.specs.Parts.{is_newline, is_layout, at_close, Token, W
 pub use Rattle.cweb_store.specs.Parts.{Blank, Newline, Join, Defs, Name, Head, Tail, Mark, Part, all_tokens, is_macro}
 pub use Rattle.cweb_store.specs.declared.parts.PartKind.{PartKind}
 pub use Rattle.cweb_store.specs.declared.parts.PartKind.TheVariants.{Unnamed}
-pub use Rattle.cweb_texts.proofs.WordLemmas.{total-append}
+pub use Rattle.cweb_store.proofs.TotalLemmas.{total-append}
 pub use Rattle.cweb_scan.specs.Effects.{Reading, after_lexeme, blank, stays_in_head, item, punctuator}
 pub use Rattle.cweb_scan.specs.Effects.{apply_effect, pass_control_text, emit_verbatim, define, pass_comment}
 pub use Rattle.cweb_scan.specs.Effects.{report_name_fault, use_name, open_name, name_in_context, emit_literal, on}

@@ -2,7 +2,7 @@
 use Rattle.cweb_scan.proofs.Common.{◌≡◌, ℕ, ◌+◌, Bool, true, false, List, [], ◌∷◌, ◌++◌, Option, Some, None, length, refl, ap, sym, ◌∙◌, arith, append_assoc, append-nil, length-append, subst, fold, add_name, option_to_list, Place, Line, NameRef, Context, Limbo, TeX, Macro, CText, Effect, Define, Format, Program, End, Cut, Kind, Lexeme, Skipped, Section, Code, Defined, unescaped, ScanState, leave_in, leave, begin_section, end_macro_in, name_occurrence, Reading, item, after_lexeme, enter, apply_effect, define, report_name_fault, name_in_context, each_line_end, move_to, source_start}
 use Rattle.std.specs.List.{filter_map, cons_option}
 use Rattle.cweb_rules.specs.Matches.{Occurrence}
-use Rattle.cweb_names.specs.Names as names
+use Rattle.cweb_store.specs.Names as names
 use Rattle.cweb_scan.specs.laws.Laws.{lexemes_of_lines, section_start, section_starts, starred_numbers}
 use Rattle.cweb_scan.specs.laws.Laws.{occurrence_of_kind, SectionsAreSectionStarts, OccurrencesAreLexemes}
 use Rattle.cweb_scan.proofs.SmallSteps.{Preserves, IsSmallKind, moved, enter-holds, item-holds}

@@ -10,7 +10,7 @@ use Rattle.cweb_rules.specs.Matches.{Kind}
 use Rattle.cweb_rules.specs.declared.effect.Effect.{Effect}
 use Rattle.cweb_rules.specs.declared.effect.Effect.TheVariants.{EmitAt}
 use Rattle.cweb_rules.specs.declared.fault.ScanKind.TheVariants.{DoubleAtInString}
-use Rattle.cweb_names.specs.Names.{Occurrence}
+use Rattle.cweb_store.specs.Names.{Occurrence}
 use Rattle.cweb_store.specs.Calls.{PartsSoFar, Contents, Replacement}
 use Rattle.cweb_rules.specs.laws.Laws.{owed_tokens}
 

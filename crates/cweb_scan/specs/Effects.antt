@@ -4,7 +4,7 @@ use Rattle.std.specs.Prelude.{bytes_eq, Option, Some, None}
 use Rattle.std.specs.List.{fold}
 use Rattle.std.specs.Fmt.{decimal}
 use Rattle.cweb_files.specs.declared.place.Place.{Place}
-use Rattle.cweb_names.specs.declared.name.NameRef.{NameRef}
+use Rattle.cweb_store.specs.declared.name.NameRef.{NameRef}
 use Rattle.cweb_store.specs.declared.parts.PartKind.TheVariants as part
 use Rattle.cweb_store.specs.Parts.{Token, Word, Number, Literal, Verbatim, Punct, Blank, Newline, Join, Defs, Name}
 use Rattle.cweb_store.specs.Parts.{Mark}

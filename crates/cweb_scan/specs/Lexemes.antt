@@ -11,7 +11,7 @@ use Rattle.cweb_rules.specs.declared.end.End.{End}
 use Rattle.cweb_rules.specs.declared.end.End.TheVariants.{Closed}
 use Rattle.cweb_scan.specs.State.{directive, ScanState, open_part_tokens, names_include, start_state, leave}
 use Rattle.cweb_scan.specs.DirectiveTokens.{is_punct}
-use Rattle.cweb_input.specs.Lines.{Line}
+use Rattle.cweb_lines.specs.Lines.{Line}
 use Rattle.cweb_store.specs.Calls.{Stored, finished}
 use Rattle.cweb_rules.specs.declared.fault.ScanFault.{ScanFault}
 use Rattle.cweb_scan.specs.Effects.{Reading, after_lexeme}

@@ -5,7 +5,7 @@ use Rattle.std.specs.Option.{is_some, option_map_or}
 use Rattle.cweb_files.specs.declared.place.Place.{Place}
 use Rattle.cweb_store.specs.declared.parts.PartKind.{PartKind}
 use Rattle.cweb_store.specs.Parts.{Token, Head, Tail, Mark, Part}
-use Rattle.cweb_names.specs.Names.{Occurrence, squeezed, is_abbreviation}
+use Rattle.cweb_store.specs.Names.{Occurrence, squeezed, is_abbreviation}
 use Rattle.cweb_store.specs.Calls.{Contents, empty, with_token, with_open, with_closed, with_occurrence}
 use Rattle.cweb_rules.specs.declared.context.Context.{Context}
 use Rattle.cweb_rules.specs.declared.context.Context.TheVariants.{Limbo, TeX, Definition, Macro, CText}
@@ -13,7 +13,7 @@ use Rattle.cweb_rules.specs.declared.fault.ScanFault.{ScanFault}
 use Rattle.cweb_rules.specs.declared.fault.ScanKind.{ScanKind}
 use Rattle.cweb_rules.specs.declared.fault.ScanKind.TheVariants.{DefinitionDropped}
 use Rattle.cweb_scan.specs.DirectiveTokens.{Directive, directive_of, some_include}
-use Rattle.cweb_names.specs.declared.name.How.TheVariants.{Full, Prefix}
+use Rattle.cweb_store.specs.declared.name.How.TheVariants.{Full, Prefix}
 
 -- The result of the source so far, as far as the rest of the scan depends on it.
 pub record ScanState : Type 0 where

@@ -2,10 +2,10 @@
 ghost use Rattle.std.specs.List.{list_all};
 ghost use Rattle.std.specs.Prelude.{◌≡◌, ◌∷◌, ◌++◌, [], All, Bool, List, ℕ, codes, true, false};
 ghost use Rattle.cweb_files.specs.declared.place.Place.{Place};
-ghost use Rattle.cweb_input.specs.surface.OpenedFileNames.{HasNoNewline};
-ghost use Rattle.cweb_input.specs.Lines.{Line};
+ghost use Rattle.cweb_lines.specs.surface.OpenedFileNames.{HasNoNewline};
+ghost use Rattle.cweb_lines.specs.Lines.{Line};
 ghost use Rattle.cweb_rules.specs.Bytes.{is_blank};
-ghost use Rattle.cweb_texts.specs.Edges.{first_is};
+ghost use Rattle.cweb_rules.specs.Edges.{first_is};
 ghost use Rattle.cweb_rules.specs.laws.Laws.{JoinsAll, is_quiet};
 ghost use Rattle.cweb_rules.specs.Matches.{Lexeme};
 ghost use Rattle.cweb_rules.specs.declared.context.Context.TheVariants.{CText};

@@ -88,7 +88,7 @@ fn solid_after(solid: Directive, next: Directive, token: Token<'_>) -> Directive
 }
 
 impl Scanner {
-    ghost use Rattle.cweb_names.specs.surface.Names.{too_many};
+    ghost use Rattle.cweb_store.specs.surface.Names.{too_many};
     ghost use Rattle.cweb_store.specs.surface.Tokens.{token_count};
     ghost use Rattle.cweb_scan.specs.Effects as after;
     ghost use Rattle.cweb_scan.specs.State.{in_directive, is_c, names_include};

@@ -1,7 +1,7 @@
 -- Indices of names, files and faults are in range.
 use Rattle.cweb_store.proofs.Common.{AreWithin, ◌≡◌, ℕ, zero, suc, ◌+◌, ◌≤◌, ◌<◌, Bool, List, [], ◌∷◌, ◌++◌, Some, None, Option, length, refl, ap, arith, length-append, Ok, Err, IfSome, All, bytes_eq, AllByRecursion, length-map, All-from_recursion, How, Full, Prefix, NameId, NameFault, NameKind, Occurrence, Name, Resolution, spellings, with_full_name, with_occurrence_name, names_from, names, beginning_from, the_one, resolved_among, resolutions_from, resolutions, resolved_at, with_some, with_file, files_from, files, Part, faults}
-use Rattle.cweb_names.proofs.NameLemmas.{position-below}
-use Rattle.cweb_names.proofs.OccurrenceLemmas.{Grows, names_from-grows, with_text-has}
+use Rattle.cweb_store.proofs.NameLemmas.{position-below}
+use Rattle.cweb_store.proofs.OccurrenceLemmas.{Grows, names_from-grows, with_text-has}
 use Rattle.cweb_store.proofs.LawLemmas.{any-grows}
 use Rattle.cweb_store.proofs.FaultLemmas.{unresolved_faults_from, faults_from}
 

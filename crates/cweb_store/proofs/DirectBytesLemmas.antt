@@ -1,9 +1,9 @@
 -- The bytes of tokens whose edge is stored.
 use Rattle.cweb_store.proofs.Common.{arith, ◌≡◌, ℕ, true, List, Some, refl, list_any, Word, Punct, direct_bytes}
-use Rattle.cweb_texts.specs.declared.edges.Edge.{Edge}
-use Rattle.cweb_texts.specs.inner.StringLists.{IsStoredEdge, is_high, is_known_edge}
-use Rattle.cweb_texts.specs.declared.edges.Edge.TheVariants as edge_kind
-use Rattle.cweb_texts.proofs.EdgeLemmas.{known-ascii}
+use Rattle.cweb_store.specs.declared.edges.Edge.{Edge}
+use Rattle.cweb_store.specs.inner.StringLists.{IsStoredEdge, is_high, is_known_edge}
+use Rattle.cweb_store.specs.declared.edges.Edge.TheVariants as edge_kind
+use Rattle.cweb_store.proofs.EdgeLemmas.{known-ascii}
 
 -- A Word with a stored edge, and a punctuator.
 pub word-borrows : (t : List ℕ) (b : Edge) → IsStoredEdge t b → is_known_edge b ≡ true

@@ -1,5 +1,6 @@
 -- Faults of names, one by one.
-use Rattle.cweb_store.proofs.Common.{◌≡◌, ℕ, zero, suc, ◌+◌, ◌<◌, Bool, false, List, [], ◌∷◌, ◌++◌, Some, map, length, drop, refl, arith, append_assoc, slice_get, option_map, list_any, NameId, NameKind, NameFault, Name, id, spellings, fault_of_name, unresolved_fault, Resolution, filter, filter_map, if◌then◌else◌, prefix_at}
+use Rattle.cweb_store.proofs.Common.{◌≡◌, ℕ, zero, suc, ◌+◌, ◌<◌, Bool, false, List, [], ◌∷◌, ◌++◌, Some, map, length, drop, refl, arith, append_assoc, slice_get, option_map, list_any, NameId, NameKind, NameFault, Name, id, spellings, fault_of_name, unresolved_fault, Resolution, filter, filter_map, if◌then◌else◌}
+use Rattle.cweb_store.proofs.NameLemmas.{prefix_at}
 use Rattle.std.specs.List.{enumerate_from}
 
 -- The faults of resolutions that begin at occurrence i.

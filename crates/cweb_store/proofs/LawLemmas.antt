@@ -3,8 +3,8 @@ use Rattle.cweb_store.proofs.Common.{◌≡◌, ℕ, zero, suc, ◌+◌, Bool, t
 use Rattle.std.proofs.lemmas.List.{take-append-le}
 use Rattle.std.proofs.lemmas.Option.{slice_get_within}
 use Rattle.cweb_store.specs.laws.Laws.{NamesDecideResolutions}
-use Rattle.cweb_names.proofs.LongerLemmas.{beginning-step}
-use Rattle.cweb_names.proofs.OccurrenceLemmas.{Grows, names_from-grows, with_text-has}
+use Rattle.cweb_store.proofs.LongerLemmas.{beginning-step}
+use Rattle.cweb_store.proofs.OccurrenceLemmas.{Grows, names_from-grows, with_text-has}
 
 -- The resolution of occurrence k, from the names before it and all names.
 pub resolutions-at : (i : ℕ) (before all : List Name) (os : List Occurrence) (k : ℕ) (o : Occurrence)

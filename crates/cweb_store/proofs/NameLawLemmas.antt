@@ -2,9 +2,9 @@
 use Rattle.cweb_store.proofs.Common.{◌≡◌, ℕ, zero, suc, ◌+◌, ◌<◌, true, false, List, [], ◌∷◌, ◌++◌, Some, None, Option, length, take, drop, refl, sym, ◌∙◌, subst, arith, eq-eqb, Ok, Err, nat_eq, slice_get, option_map, option_and_then, filter, option_to_list, starts_with, eqb-true, take-append-drop, NameId, NeverFull, Occurrence, Name, Resolution, spellings, with_full_name, with_occurrence_name, names_from, names, beginning_from, beginning, the_one, resolved_among, unresolved_fault, Distinct, NamesAreDistinct, AbbreviationsBeginTheirNames, OneFaultForNoName}
 use Rattle.cweb_store.specs.laws.Laws.{is_at}
 use Rattle.cweb_store.proofs.RangeLemmas.{drop-here}
-use Rattle.cweb_names.proofs.NameLemmas.{Distinct-push, strings-push}
-use Rattle.cweb_names.proofs.LongerLemmas.{beginning-step}
-use Rattle.cweb_names.proofs.OccurrenceLemmas.{Grows, names_from-grows}
+use Rattle.cweb_store.proofs.NameLemmas.{Distinct-push, strings-push}
+use Rattle.cweb_store.proofs.LongerLemmas.{beginning-step}
+use Rattle.cweb_store.proofs.OccurrenceLemmas.{Grows, names_from-grows}
 use Rattle.cweb_store.proofs.LawLemmas.{resolutions-at, among-prefix, names_from-append}
 use Rattle.cweb_store.proofs.FaultLemmas.{unresolved_faults_from}
 

@@ -4,7 +4,7 @@ use Rattle.std.proofs.Common.{drop-cons, drop_of_length-le}
 use Rattle.std.specs.List.{prefix_len}
 use Rattle.std.specs.List.Sorted.{IsNonDecreasing}
 use Rattle.std.specs.Prelude.{option_map, slice_get, Some}
-use Rattle.cweb_texts.proofs.ListLemmas.{get-drop}
+use Rattle.cweb_store.proofs.ListLemmas.{get-drop}
 use Rattle.cweb_store.specs.declared.parts.Part.{Part}
 use Rattle.cweb_store.proofs.TokenIndexLemmas.{index-cut}
 

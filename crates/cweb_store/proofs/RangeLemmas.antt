@@ -1,6 +1,6 @@
 -- Ranges of lists.
 use Rattle.cweb_store.proofs.Common.{◌≡◌, ℕ, zero, suc, ◌+◌, ◌-◌, ◌≤◌, ◌<◌, List, [], ◌∷◌, ◌++◌, Some, take, drop, ap, arith, length, slice_get, PartRange, Token, drop-drop}
-use Rattle.cweb_names.proofs.OccurrenceTableLemmas.{drop-at}
+use Rattle.cweb_store.proofs.OccurrenceTableLemmas.{drop-at}
 use Rattle.std.specs.Prelude.{slice_range, slice_index_or}
 use Rattle.cweb_store.specs.inner.PartRanges.{RangesFollow}
 use Rattle.std.proofs.Math.Seq.{take-add}

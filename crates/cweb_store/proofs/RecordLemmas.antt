@@ -3,7 +3,7 @@ use Rattle.cweb_store.proofs.Common.{◌≡◌, ℕ, zero, suc, ◌+◌, ◌≤�
 use Rattle.std.proofs.Math.ListN.{get_or-append}
 use Rattle.cweb_store.specs.inner.Records.{token_of_record, tokens_of, StringIsWithin, PlaceHasNumber, places_of, AreRecords, AddsPlace, InternsToken, PlaceIsWithin}
 use Rattle.cweb_store.specs.declared.tokens.records.Record.TheVariants.{Word, Number, Literal, Verbatim, Punct, Mark}
-use Rattle.cweb_texts.specs.inner.StringTables.{StringTableModel}
+use Rattle.cweb_store.specs.inner.StringTables.{StringTableModel}
 use Rattle.cweb_store.specs.Parts as spec
 
 pub records-le : (n from end : ℕ) (rs : List Record) → AreRecords n from rs end → from ≤ end

@@ -1,8 +1,8 @@
 -- The strings of a store: replacements, and the number of bytes.
 use Rattle.cweb_store.proofs.Common.{◌≡◌, ℕ, ◌+◌, ◌≤◌, ◌<◌, Bool, true, false, List, [], ◌∷◌, ◌++◌, Option, Some, None, map, length, drop, refl, ap, arith, length-append, length-drop, flat_map, slice_get, option_and_then, nat_eq, if◌then◌else◌, OccurrenceForm, all_tokens, fold, Replacement, replacement, Stored, total, token_strings, interned_token_bytes, occurrence_text, replacement_bytes, stored_strings, uninterned_store_bytes, interned_store_bytes, AreSpansOf, AreInOneList, occurrences_at, replacements_at, last_from, stored_in}
 use Rattle.cweb_store.proofs.RangeLemmas.{drop-here}
-use Rattle.cweb_texts.proofs.ListLemmas.{get-drop}
-use Rattle.cweb_texts.specs.inner.StringLists.{text_bytes}
+use Rattle.cweb_store.proofs.ListLemmas.{get-drop}
+use Rattle.cweb_store.specs.inner.StringLists.{text_bytes}
 use Rattle.cweb_store.proofs.WordLemmas.{kept-few}
 use Rattle.cweb_store.proofs.TokenStringLemmas.{all-drop, all-both, all-before, all-after, strings-valid, bytes-total}
 use Rattle.cweb_store.specs.Parts.{Part}

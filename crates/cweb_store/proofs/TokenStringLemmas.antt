@@ -3,12 +3,12 @@ use Rattle.cweb_store.proofs.Common.{◌≡◌, ℕ, zero, suc, ◌+◌, ◌<◌
 use Rattle.std.proofs.lemmas.List.{take-map, take-append-drop}
 use Rattle.std.proofs.Math.Seq.{length-take-le}
 use Rattle.cweb_store.specs.declared.tokens.records.Record.TheVariants.{Number, Literal, Verbatim, Word, Punct}
-use Rattle.cweb_texts.specs.inner.StringLists.{text_bytes, string_at}
-use Rattle.cweb_texts.specs.inner.StringTables.{StringTableModel, has_word}
+use Rattle.cweb_store.specs.inner.StringLists.{text_bytes, string_at}
+use Rattle.cweb_store.specs.inner.StringTables.{StringTableModel, has_word}
 use Rattle.cweb_store.specs.surface.Tokens.{words_of, other_bytes, IsSpanOf}
 use Rattle.cweb_store.specs.inner.Records.{AreTokens, AddsPlace, places_of}
 use Rattle.cweb_store.proofs.RecordLemmas.{push-tokens, push-records, tokens-grow, IsCut}
-use Rattle.cweb_texts.proofs.WordLemmas.{total-append}
+use Rattle.cweb_store.proofs.TotalLemmas.{total-append}
 use Rattle.cweb_store.proofs.WordLemmas.{words-push, same-words, same-bytes, same-more, same-more-bytes}
 
 stored-after : (x bytes string : List ℕ) → IsSpanOf bytes string → IsSpanOf (x ++ bytes) string

@@ -3,7 +3,7 @@ use Rattle.std.specs.Prelude.{List, [], ◌∷◌, ◌++◌, Option, Some, None,
 use Rattle.std.specs.Prelude.{fold, if◌then◌else◌}
 use Rattle.cweb_store.specs.declared.parts.PartKind.{PartKind}
 use Rattle.cweb_store.specs.Parts.{Token, Part, without_layout, at_close}
-use Rattle.cweb_names.specs.Names.{Occurrence}
+use Rattle.cweb_store.specs.Names.{Occurrence}
 
 -- The closed parts and the open one.
 pub record PartsSoFar : Type 0 where

@@ -1,7 +1,7 @@
+pub mod Names
 pub mod Parts
 pub mod Calls
 pub mod Faults
 pub mod surface
 pub mod laws
 pub mod inner
-pub use Rattle.cweb_names.specs.Names

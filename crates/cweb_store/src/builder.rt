@@ -4,14 +4,15 @@ ghost use Rattle.std.specs.Prelude.{IsTrue, OnOk, OnErr};
 ghost use Rattle.cweb_store.specs.surface.Tokens.{part_count, token_count, replacement_of};
 ghost use Rattle.cweb_store.specs.Calls.{empty, finished, with_closed, with_dropped};
 ghost use Rattle.cweb_store.specs.Calls.{with_occurrence, with_open, with_replacement, with_token};
-ghost use Rattle.cweb_names.specs.surface.Names.{occurrence_of, too_many};
+ghost use Rattle.cweb_store.specs.surface.Names.{occurrence_of, too_many};
 
+use crate::name::{How, NameRef};
 use crate::parts::PartKind;
 use crate::parts::list::{FULL, PartList};
 use crate::replacements::Replacements;
 use crate::store::Store;
+use crate::table::NameTable;
 use crate::tokens::Token;
-use cweb_names::{How, NameRef, NameTable};
 use std::alloc::{AllocError, Global};
 use std::marker::Model;
 

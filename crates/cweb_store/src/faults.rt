@@ -2,18 +2,20 @@
 ghost use Rattle.std.specs.Prelude.{◌≡◌, ◌<◌, ◌^◌, ◌++◌, ◌&&◌, ◌||◌, not, [], List, length, map};
 ghost use Rattle.std.specs.Prelude.{IfOk, OnOk, ◌∷◌, if◌then◌else◌};
 ghost use Rattle.std.specs.List.{list_any};
-ghost use Rattle.cweb_names.specs.declared.name.NameKind.TheVariants.{PrefixOfAnother, NotPresent};
-ghost use Rattle.cweb_names.specs.Names.{is_id, is_prefix_of_another};
-ghost use Rattle.cweb_names.specs.Names as spec;
+ghost use Rattle.cweb_store.specs.declared.name.NameKind.TheVariants.{PrefixOfAnother, NotPresent};
+ghost use Rattle.cweb_store.specs.Names.{is_id, is_prefix_of_another};
+ghost use Rattle.cweb_store.specs.Names as spec;
 ghost use Rattle.cweb_store.specs.Faults.{fault_of_name, faults_where, unresolved_faults};
 ghost use Rattle.cweb_store.specs.Faults as fault_specs;
-ghost use Rattle.cweb_names.specs.declared.name.NameId.{NameId};
+ghost use Rattle.cweb_store.specs.declared.name.NameId.{NameId};
 ghost use Rattle.cweb_store.specs.inner.Stored.{has_head, AreWithin, flag_of};
 
+use crate::known::KnownNames;
+use crate::name::{NameFault, NameId, NameKind, NameRef};
 use crate::parts::closed::ClosedParts;
 use crate::parts::iter::Wanted;
 use crate::parts::links::Heads;
-use cweb_names::{KnownNames, NameFault, NameId, NameKind, NameRef, NameTable};
+use crate::table::NameTable;
 use indexmap::IndexSet;
 use std::alloc::{AllocError, Global};
 

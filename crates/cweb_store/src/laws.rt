@@ -1,4 +1,5 @@
-//! Laws of names and parts for any calls of a builder. Each function exists for its contract; only the first runs code.
+//! Laws of spellings, and of names and parts for any calls of a builder. Each function exists for its contract; only the
+//! first runs code.
 
 ghost use Rattle.std.specs.Prelude.{◌≡◌, ◌<◌, length, map, IfOk};
 ghost use Rattle.cweb_store.specs.laws.Laws.{contents, AbbreviationsStay, EarlierNamesDecide};
@@ -10,7 +11,8 @@ ghost use Rattle.cweb_store.specs.laws.Laws.{NamesDecideResolutions, JoiningConc
 ghost use Rattle.cweb_store.specs.laws.Laws.{OnlyLayoutIsDropped, TokensAreThosePushed};
 ghost use Rattle.cweb_store.specs.laws.Laws.{accepted_calls, AcceptsCalls};
 ghost use Rattle.cweb_store.specs.Calls.{empty, finished};
-ghost use Rattle.cweb_names.specs.surface.Names.{too_many};
+ghost use Rattle.cweb_store.specs.laws.Names.{SpellingsAreSqueezed};
+ghost use Rattle.cweb_store.specs.surface.Names.{too_many};
 
 use crate::builder::Builder;
 use crate::call::{Answered, Call};
@@ -37,6 +39,12 @@ pub fn store_holds_calls_answered_ok<'a>(
     let store = builder.finish()?;
     Ok((answers, store))
 }
+
+/// White space in a spelling is single blanks between other bytes, which stay in order. Any span of white space counts
+/// as one blank, and a text with single blanks stays.
+pub fn spellings_are_squeezed()
+    ensures { SpellingsAreSqueezed }
+{}
 
 /// Names are distinct. A full one resolves to itself, an abbreviation to a name that it begins: the only earlier one,
 /// whatever comes later. Other names change nothing. Without a name there is one fault.

@@ -1,5 +1,34 @@
-//! The names, parts and tokens of a web: a builder that is called as a web is scanned, and the store that it makes.
+//! The names, parts and tokens of a web: a builder that is called as a web is scanned, and the store that it makes. All
+//! strings are in one byte buffer, and equal words are stored once (CWEB manual, "Section names").
 #![tactic(auto)]
+
+// the edge of a string
+mod edges;
+// strings in one byte buffer
+mod strings;
+// the same strings, as borrowed slices
+mod slices;
+// interned words
+mod words;
+// strings in one table, those that repeat stored once
+mod string_table;
+
+// the spelling of section names
+mod spelling;
+// names as numbers, and faults of names
+mod name;
+// sorted byte strings
+mod sorted;
+// the names that begin with a prefix
+mod found;
+// a hash table of names
+mod index;
+// the names so far
+mod known;
+// the name that an occurrence resolves to
+mod resolution;
+// the occurrences of names
+mod table;
 
 // tokens of parts
 mod tokens;
@@ -27,10 +56,12 @@ pub mod laws;
 
 pub use builder::Builder;
 pub use call::{Answered, Call};
-pub use cweb_names::{How, NameFault, NameId, NameKind, NameRef};
-pub use cweb_texts::{Edge, TokenBytes};
+pub use edges::{Edge, TokenBytes, begins_with_operator, is_operator};
+pub use name::{How, NameFault, NameId, NameKind, NameRef};
 pub use parts::iter::Parts;
 pub use parts::{Part, PartKind};
+pub use spelling::{is_prefix, is_squeezed, squeezed};
 pub use store::Store;
 pub use tokens::Token;
 pub use tokens::token_reader::TokenReader;
+pub use words::key::Key;

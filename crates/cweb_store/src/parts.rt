@@ -1,7 +1,7 @@
 // Parts as ranges of token indices.
 ghost use Rattle.std.specs.Prelude.{◌≡◌};
 
-use cweb_names::NameRef;
+use crate::name::NameRef;
 
 pub mod closed;
 pub mod iter;

@@ -3,7 +3,7 @@ ghost use Rattle.std.specs.Prelude.{◌≡◌, ◌++◌, ◌∷◌, [], map, IfO
 ghost use Rattle.cweb_store.specs.surface.Tokens.{replacement_of, replacement_bytes};
 ghost use Rattle.cweb_store.specs.inner.Stored.{AreLast};
 
-use cweb_texts::StringList;
+use crate::strings::StringList;
 use std::alloc::{AllocError, Global};
 use std::marker::Model;
 

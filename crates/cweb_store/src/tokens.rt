@@ -7,8 +7,8 @@ pub mod token_index;
 pub mod token_reader;
 pub mod unaligned;
 
+use crate::name::NameRef;
 use cweb_files::Place;
-use cweb_names::NameRef;
 
 /// A token of a part. It borrows its bytes.
 #[derive(Clone, Copy, Debug, PartialEq, Eq)]

@@ -2,7 +2,7 @@
 use Rattle.cweb_tools.proofs.Common.{◌≡◌, ◌⊎◌, inl, inr, ℕ, List, refl, IsSome, Option, Some, None, Stop, subject, contents_of, failed_reads, arith}
 use Rattle.std.specs.Prelude.{Err}
 use Rattle.cweb_files.specs.Shelves.{Observed, ShelfModel}
-use Rattle.cweb_input.specs.surface.OpenSources.{BlamesFile, ReadsShelf, name_of_file}
+use Rattle.cweb_lines.specs.surface.OpenSources.{BlamesFile, ReadsShelf, name_of_file}
 use Rattle.cweb_tools.proofs.Broken.{shelf_after}
 
 -- Contents are known or not.

@@ -1,6 +1,6 @@
 -- A file that is written, and the end of a run after calls.
 use Rattle.cweb_tools.proofs.Common.{◌≡◌, inl, inr, ℕ, Bool, List, [], ◌∷◌, ◌++◌, refl, ap, Option, Some, None, Result, Ok, Err, Stop, WriteFault, LogFault, Memory, stop_line, Logs, SinkModel, changed, failing, with_file, without_file, writes, DoesInBoth, DoesInOut, Shown, Act, Breaks, Ending, ending, plans, reserves, Does, RunEnds, Devices, FailedReads, at, EndsInLog, DoesInLog, log_ending, Numbers, closing_acts, when, Scanned, arith}
-use Rattle.cweb_log.specs.Items.{counts}
+use Rattle.cweb_tools.specs.Items.{counts}
 use Rattle.cweb_tools.specs.Tangle.{numbers_of}
 use Rattle.cweb_tools.proofs.Doing.{ends_done, ends_halted, ends_in, no_shelf}
 use Rattle.cweb_tools.proofs.Broken.{log_until}

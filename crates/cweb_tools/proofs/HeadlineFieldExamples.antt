@@ -3,7 +3,7 @@ use Rattle.cweb_tools.proofs.Common.{FileId, SourceLine, emitted_lines, written_
 use Rattle.cweb_files.specs.Files.{put_file}
 use Rattle.cweb_files.specs.surface.Writes.{always_open}
 use Rattle.std.specs.Prelude.{fold, option_map}
-use Rattle.cweb_log.specs.Items.{writing}
+use Rattle.cweb_tools.specs.Items.{writing}
 use Rattle.cweb_files.specs.declared.place.Place.{Place}
 use Rattle.cweb_lines.specs.Events.{emitted}
 use Rattle.cweb_tools.specs.Course as course

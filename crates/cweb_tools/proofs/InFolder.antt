@@ -2,7 +2,7 @@
 use Rattle.cweb_tools.proofs.Common.{◌≡◌, refl, subst, ℕ, Some, List, [], ◌∷◌, map, Option, None, IsSome, World, OptionsModel, TangleCourse, IsTangleCourse, RanFreely, All-nil, File, Devices, SinkContents, SinkModel, at, world_of, script, shown_by, TanglePromises, written_files, arith}
 use Rattle.cweb_files.specs.Files.{put_file}
 use Rattle.cweb_files.specs.Shelves.{ShelfModel}
-use Rattle.cweb_log.specs.DeviceModels.{contents_of, failed_reads}
+use Rattle.cweb_tools.specs.DeviceModels.{contents_of, failed_reads}
 use Rattle.std.specs.Prelude.{fold, option_map}
 use Rattle.cweb_system.specs.declared.written.WrittenFile.{WrittenFile}
 use Rattle.cweb_system.specs.declared.file_system.FileSystem.{Ghosts as FileSystem}

@@ -1,4 +1,11 @@
 pub mod Common
+pub mod RequestedOptions
+pub mod WordCounts
+pub mod BufferedLog
+pub mod JoinedChunks
+pub mod Stems
+mod TangleWordExamples
+mod WebItemExamples
 pub mod AllDone
 pub mod Arguments
 pub mod Carried

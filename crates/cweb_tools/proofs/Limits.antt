@@ -1,6 +1,6 @@
 -- A merge that breaks a limit is not within the limits.
 use Rattle.cweb_tools.proofs.Common.{◌≡◌, ◌≤◌, ◌<◌, ◌+◌, ◌⊎◌, inl, inr, List, [], ◌∷◌, ◌++◌, refl, sym, ◌∙◌, ap, subst, arith, emitted_lines, length, length-append, ℕ, SourceLine, Event, took, SoFar, Line, BreaksLimit, counts_of, StopsAfterLines, begun_with, AreShort, IsWithinLimits, taken_lines, LINE_LENGTH, LINES, BYTES, Stop, LineTooLong, TooMuchText}
-use Rattle.cweb_input.specs.OpenSources.{RefusesLine, TakenCountersModel}
+use Rattle.cweb_lines.specs.OpenSources.{RefusesLine, TakenCountersModel}
 use Rattle.cweb_lines.specs.Events.{size_of_lines}
 use Rattle.cweb_lines.proofs.EmittedLinesAddUp.{size-append, taken-append}
 

@@ -1,7 +1,7 @@
 -- The line marks of an expansion are among those of the parts.
 use Rattle.cweb_tools.proofs.Common.{ℕ, zero, suc, Bool, true, false, cond, not, List, [], ◌∷◌, ◌++◌, length, All-nil, All-cons, All-head, All-tail, All-append, All, Option, None, Some, Stored, Token, Mark, Name, Defs, Part, all_tokens, is_of, is_unnamed, NameId, PartKind, IsMarkBelow, expand, expanded_name, put, option_map_or, defs_first, root_list, MarkFileIsNamed, Setting, joined, names, program, resolved_use, flat_map}
 use Rattle.cweb_store.specs.Parts as parts
-use Rattle.cweb_names.specs.Names as spec
+use Rattle.cweb_store.specs.Names as spec
 
 -- The file of a mark has a name.
 pub mark_named : (s : Setting) (t : Token) → IsMarkBelow (length s.files) t → MarkFileIsNamed s t

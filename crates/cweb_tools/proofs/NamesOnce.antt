@@ -16,8 +16,8 @@ use Rattle.std.specs.Ordering.{is_eq, ordering_then}
 use Rattle.std.specs.declared.cmp.Ordering.{Ordering}
 use Rattle.std.specs.Prelude.{slice_index_or}
 use Rattle.std.specs.Str.{bytes_eq}
-use Rattle.cweb_texts.specs.declared.words.key.Key.{Key}
-use Rattle.cweb_texts.specs.inner.Words.{key_of}
+use Rattle.cweb_store.specs.declared.words.key.Key.{Key}
+use Rattle.cweb_store.specs.inner.Words.{key_of}
 use Rattle.cweb_tools.specs.Depfile.{add_once, each_once}
 use Rattle.cweb_tools.specs.inner.RuleModel.{keys_of}
 

@@ -2,7 +2,7 @@
 use Rattle.cweb_tools.proofs.Common.{◌≡◌, ℕ, List, [], ◌∷◌, length, subst, append_assoc, append-nil, All, OnErr, OnOk, Option, Some, None, refl, option_map, Result, Ok, Err, Token, IsMarkBelow, left, PrintsPrefix, Moves, PrintsToken, left_in_printer, setting_of, MarkFileIsNamed, setting, file, Expander, Printer, PrintsSoFar, SinkContents, SinkModel, StaysReady, changed, failing, left_in, with_printed, without_draft, written, arith}
 use Rattle.cweb_files.specs.Sinks.{FailsWithin}
 use Rattle.cweb_files.proofs.Appending.{fails_then, written_none, written_on, written_then}
-use Rattle.cweb_print.specs.surface.Printed.{EndsFile}
+use Rattle.cweb_out.specs.surface.Printed.{EndsFile}
 use Rattle.cweb_tools.proofs.Marks.{all_back, mark_named}
 use Rattle.cweb_tools.proofs.ReadyExpanders.{stays_on}
 

@@ -1,6 +1,6 @@
 -- The devices after a stop of reading, and its cause.
 use Rattle.cweb_tools.proofs.Common.{◌≤◌, ◌≡◌, ◌+◌, ℕ, List, [], ◌∷◌, ◌++◌, length, length-append, refl, append-nil, arith, get_or-append, FileId, SourceLine, Event, took, SoFar, BreaksLimit, counts_of, begun_with, StopsFor, StopsReading, files_named, openings, IsWithinLimits, LINE_LENGTH, LINES, BYTES, Stop, ReadFault, LineTooLong, TooMuchText, Memory, LogFault, StopsAfter, file_name_at, stop_line, subject, Logs, SinkModel, Devices, Breaks, FailsReading, Line, ending, IsOfFile, reads, LogsEnding}
-use Rattle.cweb_input.specs.OpenSources.{RefusesLine}
+use Rattle.cweb_lines.specs.OpenSources.{RefusesLine}
 use Rattle.cweb_tools.proofs.Limits.{CutAt, NextBreaks, cut_at_limit}
 use Rattle.cweb_tools.proofs.Broken.{shelf_after}
 

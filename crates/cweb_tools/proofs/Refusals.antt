@@ -2,7 +2,7 @@
 use Rattle.cweb_tools.proofs.Common.{◌≡◌, ◌∙◌, ℕ, List, [], ◌∷◌, refl, ap, subst, flat_map, IfSome, Option, None, Some, Result, Ok, Err, Stored, Planned, Refusal, same_name, cycle, IsExpectedFault, PlanFault, Cycle, SameName, BadName, fault, line, plan_item, LogItem, SinkModel, Wrote, DoesInLog, log_ending, EndsInLog, plans, says, status_by, refusal_message, refused, plan_made, planning, planning_by, refusal_in, arith}
 use Rattle.cweb_out.specs.Outputs as out
 use Rattle.cweb_out.specs.declared.outputs.fault.PlanFault.TheVariants.{Memory}
-use Rattle.cweb_log.proofs.BufferedLog.{logs_by}
+use Rattle.cweb_tools.proofs.BufferedLog.{logs_by}
 use Rattle.cweb_tools.specs.Depend.{depend_plan_acts}
 use Rattle.cweb_tools.specs.declared.rule_targets.Targets.{Targets}
 use Rattle.cweb_tools.proofs.Doing.{ends_on}

@@ -1,18 +1,18 @@
 -- Definitions that only proofs cite.
 use Rattle.std.specs.Prelude.{◌≡◌, ◌++◌, ℕ, List, Option}
-use Rattle.cweb_log.specs.CommandLine.{web_names_by}
+use Rattle.cweb_tools.specs.CommandLine.{web_names_by}
 use Rattle.cweb_tools.specs.Course.{Course, world_of}
 use Rattle.cweb_tools.specs.inner.Does.{merge_course}
 use Rattle.cweb_files.specs.Sinks.{SinkModel, written}
 use Rattle.cweb_store.specs.Parts.{Token}
-use Rattle.cweb_print.specs.surface.Printed.{left_after_tokens, left_in_printer, setting_of}
-use Rattle.cweb_print.specs.Printing.{setting, print}
+use Rattle.cweb_out.specs.surface.Printed.{left_after_tokens, left_in_printer, setting_of}
+use Rattle.cweb_out.specs.Printing.{setting, print}
 use Rattle.cweb_out.specs.declared.expander.Expander.{Expander}
-use Rattle.cweb_print.specs.declared.printer.Printer.{Printer}
+use Rattle.cweb_out.specs.declared.printer.Printer.{Printer}
 use Rattle.cweb_tools.specs.inner.Expanders.{StaysReady, left_in}
 use Rattle.cweb_tools.specs.Script.{web_acts}
 use Rattle.cweb_tools.specs.inner.Tangle.{status_by, fault_count, LaterActs}
-use Rattle.cweb_log.specs.declared.options.Shown.{Shown}
+use Rattle.cweb_tools.specs.declared.options.Shown.{Shown}
 use Rattle.cweb_tools.specs.Script as script
 
 abbrev pub course_of : (List ℕ → Option (List ℕ)) → List (List ℕ) → Option (List ℕ) → Course

@@ -1,6 +1,6 @@
 -- A property of acts that holds of none, and is preserved by logging and writing, holds of the acts for a web.
 use Rattle.cweb_tools.proofs.Common.{ℕ, Bool, true, false, List, [], ◌∷◌, ◌++◌, map, append-nil, File, LogItem, closing, no_text, starred, Shown, Act, reserves, says, writes, Numbers, closing_acts, outputs_acts, planned, planned_acts, starred_acts, when, arith}
-use Rattle.cweb_log.specs.Items.{counts, writing}
+use Rattle.cweb_tools.specs.Items.{counts, writing}
 
 -- Any item may be logged.
 abbrev pub Any : LogItem → Type 0

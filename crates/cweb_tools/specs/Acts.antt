@@ -4,12 +4,12 @@ use Rattle.std.specs.Prelude.{codes, if◌then◌else◌, option_map}
 use Rattle.std.specs.List.{list_any}
 use Rattle.cweb_files.specs.declared.bins.BinFault.TheVariants as bin
 use Rattle.cweb_lines.specs.Events.{Event, IsWithinLimits, emitted_lines, taken_lines, written_lines, BreaksLimit}
-use Rattle.cweb_input.specs.declared.stop.Stop.{Stop}
-use Rattle.cweb_input.specs.declared.stop.Stop.TheVariants.{ReadFault, LineTooLong, TooMuchText, Memory, OutNotOpened}
-use Rattle.cweb_input.specs.declared.stop.Stop.TheVariants.{WriteFault, LogFault}
-use Rattle.cweb_log.specs.Items.{LogItem, is_fault, line}
-use Rattle.cweb_log.specs.Log.{file_name_at, stop_line}
-use Rattle.cweb_log.specs.DeviceModels.{Devices, Logs, FailedReads}
+use Rattle.cweb_lines.specs.declared.stop.Stop.{Stop}
+use Rattle.cweb_lines.specs.declared.stop.Stop.TheVariants.{ReadFault, LineTooLong, TooMuchText, Memory, OutNotOpened}
+use Rattle.cweb_lines.specs.declared.stop.Stop.TheVariants.{WriteFault, LogFault}
+use Rattle.cweb_tools.specs.Items.{LogItem, is_fault, line}
+use Rattle.cweb_tools.specs.Log.{file_name_at, stop_line}
+use Rattle.cweb_tools.specs.DeviceModels.{Devices, Logs, FailedReads}
 use Rattle.cweb_files.specs.Sinks.{FailsWithin, SinkContents, SinkModel, changed, committed, failing, with_draft}
 use Rattle.cweb_files.specs.Sinks.{with_printed, without_file, written}
 

@@ -1,9 +1,9 @@
 -- The course of a run of `wmerge`, from the files, the words and the folder of included files.
 use Rattle.std.specs.Prelude.{unwrap_or, ◌≡◌, List, [], ◌∷◌, Option, None, Some, ℕ}
-use Rattle.cweb_input.specs.Include.{names_found, contents_found, World, Found, web_at, change_at}
+use Rattle.cweb_lines.specs.Include.{names_found, contents_found, World, Found, web_at, change_at}
 use Rattle.cweb_lines.specs.Events.{Event}
 use Rattle.cweb_lines.specs.Merge.{started, Yields}
-use Rattle.cweb_log.specs.CommandLine.{WebNames}
+use Rattle.cweb_tools.specs.CommandLine.{WebNames}
 
 -- The folder in which included files are also searched. An empty one counts as none.
 abbrev pub folder_of : Option (List ℕ) → Option (List ℕ)

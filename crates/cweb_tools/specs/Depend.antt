@@ -1,11 +1,11 @@
 -- The acts of a run of `wdep`, its promise, and its headline theorem.
 use Rattle.std.specs.Prelude.{ℕ, ◌==◌, List, [], ◌∷◌, ◌++◌, codes, fold, map, take, Option, if◌then◌else◌}
 use Rattle.std.specs.List.{list_any}
-use Rattle.cweb_input.specs.Include.{World}
-use Rattle.cweb_input.specs.declared.stop.Stop.TheVariants.{Usage, WebNotOpened, ChangeNotOpened}
-use Rattle.cweb_log.specs.Items.{fault, no_text, stopped}
-use Rattle.cweb_log.specs.CommandLine.{OptionsModel}
-use Rattle.cweb_log.specs.DeviceModels.{Devices}
+use Rattle.cweb_lines.specs.Include.{World}
+use Rattle.cweb_lines.specs.declared.stop.Stop.TheVariants.{Usage, WebNotOpened, ChangeNotOpened}
+use Rattle.cweb_tools.specs.Items.{fault, no_text, stopped}
+use Rattle.cweb_tools.specs.CommandLine.{OptionsModel}
+use Rattle.cweb_tools.specs.DeviceModels.{Devices}
 use Rattle.cweb_tools.specs.Acts.{Act, judges, says, opens, reads, plans, reserves, prints, FollowsActs}
 use Rattle.cweb_tools.specs.Depfile.{depfile, each_once}
 use Rattle.cweb_tools.specs.declared.rule_targets.Targets.{Targets}

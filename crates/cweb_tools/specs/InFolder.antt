@@ -4,7 +4,7 @@ use Rattle.cweb_files.specs.Files.{File}
 use Rattle.cweb_system.specs.declared.file_system.FileSystem.{Ghosts as FileSystem}
 use Rattle.cweb_system.specs.Bins.{empty_bins, new_shelf}
 use Rattle.cweb_system.specs.Tree.{Tree, contents}
-use Rattle.cweb_log.specs.DeviceModels.{Devices, FailedReads, failed_reads}
+use Rattle.cweb_tools.specs.DeviceModels.{Devices, FailedReads, failed_reads}
 use Rattle.cweb_files.specs.Sinks.{SinkModel}
 
 -- The devices before a run of `ctangle`: the files of a folder, and bins that have committed none.

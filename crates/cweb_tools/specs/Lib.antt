@@ -1,3 +1,7 @@
+pub mod Log
+pub mod Items
+pub mod CommandLine
+pub mod DeviceModels
 pub mod Acts
 pub mod Course
 pub mod Depend
@@ -8,5 +12,6 @@ pub mod MergeActs
 pub mod Script
 pub mod Tangle
 pub mod Spacing
+pub mod surface
 pub mod laws
 pub mod inner

@@ -1,12 +1,12 @@
 -- The acts of a run of `wmerge`, its promise, and its headline theorem.
 use Rattle.std.specs.Prelude.{◌≡◌, ℕ, List, [], ◌∷◌, ◌++◌, codes, map, Option, None, Some}
 use Rattle.std.specs.Option.{option_and}
-use Rattle.cweb_input.specs.Include.{World}
+use Rattle.cweb_lines.specs.Include.{World}
 use Rattle.cweb_lines.specs.Events.{reported_faults, openings}
-use Rattle.cweb_input.specs.declared.stop.Stop.TheVariants.{Usage, WebNotOpened, ChangeNotOpened}
-use Rattle.cweb_log.specs.Items.{source_item, stopped}
-use Rattle.cweb_log.specs.CommandLine.{WebNames}
-use Rattle.cweb_log.specs.DeviceModels.{Devices}
+use Rattle.cweb_lines.specs.declared.stop.Stop.TheVariants.{Usage, WebNotOpened, ChangeNotOpened}
+use Rattle.cweb_tools.specs.Items.{source_item, stopped}
+use Rattle.cweb_tools.specs.CommandLine.{WebNames}
+use Rattle.cweb_tools.specs.DeviceModels.{Devices}
 use Rattle.cweb_tools.specs.Acts.{Act, judges, says, opens, merges, FollowsActs}
 use Rattle.cweb_tools.specs.Course.{Course, unread, not_there, change_not_there, merging, change_name, IsMergeCourse}
 use Rattle.cweb_tools.specs.Headline.{DoesActsFreely}

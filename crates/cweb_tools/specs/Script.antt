@@ -3,9 +3,9 @@ use Rattle.std.specs.Prelude.{count_by, ℕ, ◌+◌, Bool, true, false, List, [
 use Rattle.std.specs.List.{flat_map}
 use Rattle.cweb_files.specs.Files.{File}
 use Rattle.cweb_lines.specs.Events.{Event}
-use Rattle.cweb_input.specs.declared.stop.Stop.TheVariants.{Usage, WebNotOpened, ChangeNotOpened}
-use Rattle.cweb_log.specs.Items.{LogItem, banner, starred, fault, is_fault, no_text, writing, counts, closing, stopped}
-use Rattle.cweb_log.specs.declared.options.Shown.{Shown}
+use Rattle.cweb_lines.specs.declared.stop.Stop.TheVariants.{Usage, WebNotOpened, ChangeNotOpened}
+use Rattle.cweb_tools.specs.Items.{LogItem, banner, starred, fault, is_fault, no_text, writing, counts, closing, stopped}
+use Rattle.cweb_tools.specs.declared.options.Shown.{Shown}
 use Rattle.cweb_tools.specs.Acts.{Act, judges, says, opens, reads, plans, reserves, writes}
 
 -- The numbers of sections, names and macros of a web.

@@ -5,7 +5,7 @@ use Rattle.cweb_store.specs.Parts.{Token, Word, Number, Literal, Punct, Blank, N
 use Rattle.cweb_scan.specs.Effects.{Reading}
 use Rattle.cweb_scan.specs.DirectiveTokens.{is_punct}
 use Rattle.cweb_scan.specs.Lexemes.{lex, ReadsAlone, InPlainC, HasReadTokens, doubled, significant, is_hash}
-use Rattle.cweb_print.specs.Printing.{Setting, print}
+use Rattle.cweb_out.specs.Printing.{Setting, print}
 
 -- All bytes are below 128.
 abbrev pub is_ascii : List ℕ → Bool

@@ -2,24 +2,24 @@
 use Rattle.std.specs.Prelude.{◌≡◌, ℕ, List, ◌++◌, map, count_by, Option, None, Some, Result, Ok, Err}
 use Rattle.std.specs.Option.{option_map_or}
 use Rattle.cweb_files.specs.Files.{File}
-use Rattle.cweb_input.specs.Include.{World}
+use Rattle.cweb_lines.specs.Include.{World}
 use Rattle.cweb_lines.specs.Events.{emitted_lines, reported_faults, openings}
-use Rattle.cweb_input.specs.declared.fault.SourceFault.{SourceFault}
+use Rattle.cweb_lines.specs.declared.fault.SourceFault.{SourceFault}
 use Rattle.cweb_store.specs.Calls.{Stored}
 use Rattle.cweb_store.specs.Parts.{Part, is_macro}
 use Rattle.cweb_scan.specs.Lexemes.{Scanned, scanned}
 use Rattle.cweb_out.specs.Expansion.{expand, names}
 use Rattle.cweb_out.specs.Outputs as out
 use Rattle.cweb_out.specs.Outputs.{Output, Planned, Refusal, root_list}
-use Rattle.cweb_print.specs.Printing.{setting, file}
-use Rattle.cweb_log.specs.Items.{source_item, name_items, refusal_message, scan_item}
-use Rattle.cweb_log.specs.CommandLine.{OptionsModel, shown_by_default}
-use Rattle.cweb_log.specs.declared.options.Shown.{Shown}
+use Rattle.cweb_out.specs.Printing.{setting, file}
+use Rattle.cweb_tools.specs.Items.{source_item, name_items, refusal_message, scan_item}
+use Rattle.cweb_tools.specs.CommandLine.{OptionsModel, shown_by_default}
+use Rattle.cweb_tools.specs.declared.options.Shown.{Shown}
 use Rattle.cweb_tools.specs.Course as course
 use Rattle.cweb_tools.specs.Course.{Course, IsMergeCourse, change_name}
 use Rattle.cweb_tools.specs.Script.{Numbers, Planning, TangleCourse, Web, unread, not_there, change_not_there, tangling}
 use Rattle.cweb_tools.specs.Script.{refused, planned, script}
-use Rattle.cweb_log.specs.DeviceModels.{Devices}
+use Rattle.cweb_tools.specs.DeviceModels.{Devices}
 use Rattle.cweb_tools.specs.Acts.{FollowsActs}
 use Rattle.cweb_tools.specs.Headline.{DoesActsFreely}
 

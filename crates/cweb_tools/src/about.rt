@@ -1,14 +1,14 @@
 // What `wdep` says of itself.
 ghost use Rattle.std.specs.Prelude.{◌≡◌, ◌<◌, ◌+◌, codes, map};
 ghost use Rattle.std.specs.Option.{option_copied};
-ghost use Rattle.cweb_log.specs.Log.{stop_line};
-ghost use Rattle.cweb_log.specs.DeviceModels.{Logs};
+ghost use Rattle.cweb_tools.specs.Log.{stop_line};
+ghost use Rattle.cweb_tools.specs.DeviceModels.{Logs};
 ghost use Rattle.cweb_tools.specs.inner.Does.{SinkCountsFit};
 ghost use Rattle.cweb_files.specs.Sinks.{FailsWithin, written};
 ghost use Rattle.cweb_tools.specs.inner.RuleModel.{about_wdep, about_word};
 
+use crate::writing::log_stop;
 use cweb_lines::{Sink, Stop, write_all};
-use cweb_log::log_stop;
 
 const VERSION: &str = "wdep (Lozgirpa) 0.5.1\n";
 

@@ -1,7 +1,7 @@
 // The text that `wdep` prints: rules as in a compiler's depfile.
 ghost use Rattle.std.specs.Prelude.{◌≡◌, ◌++◌, [], codes, drop, fold, map, IfOk, OnOk};
 ghost use Rattle.std.specs.List.{flat_map};
-ghost use Rattle.cweb_input.specs.surface.OpenedFileNames.{opened_file_names};
+ghost use Rattle.cweb_lines.specs.surface.OpenedFileNames.{opened_file_names};
 ghost use Rattle.cweb_tools.specs.Depend.{among_outputs};
 ghost use Rattle.cweb_tools.specs.Depfile.{add_word, depfile, each_once, empty_rule, escaped};
 ghost use Rattle.cweb_tools.specs.Depfile.{has_equals, leader, prerequisite_words, target_words};
@@ -14,7 +14,7 @@ use crate::rule_targets::Targets;
 use cweb_files::FileId;
 use cweb_lines::FileNames;
 use cweb_out::Plan;
-use cweb_texts::Key;
+use cweb_store::Key;
 use std::alloc::{AllocError, Global};
 use std::collections::BTreeSet;
 

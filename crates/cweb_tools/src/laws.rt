@@ -1,8 +1,8 @@
 //! Laws of whole runs, for all device failures and failed allocations, of blanks between tokens, and of targets.
 ghost use Rattle.std.specs.Prelude.{◌≡◌, ℕ, List, None};
-ghost use Rattle.cweb_log.specs.DeviceModels.{Devices};
+ghost use Rattle.cweb_tools.specs.DeviceModels.{Devices};
 ghost use Rattle.cweb_lines.specs.Events.{Event};
-ghost use Rattle.cweb_log.specs.declared.options.Shown.{Shown};
+ghost use Rattle.cweb_tools.specs.declared.options.Shown.{Shown};
 ghost use Rattle.cweb_tools.specs.Acts.{RunEnds};
 ghost use Rattle.cweb_tools.specs.Headline.{files_in};
 ghost use Rattle.cweb_tools.specs.laws.RunEffects.{LeavesFiles, tangle_files};

@@ -1,19 +1,19 @@
 // Writes the outputs of a run in order.
 ghost use Rattle.std.specs.Prelude.{◌≡◌, ◌<◌, ◌+◌, ◌^◌, ◌∷◌, [], length, All, IfErr, OnErr, OnOk};
 ghost use Rattle.cweb_files.specs.Sinks.{changed, failing, without_draft, written};
-ghost use Rattle.cweb_input.specs.surface.OpenedFileNames.{opened_file_names};
+ghost use Rattle.cweb_lines.specs.surface.OpenedFileNames.{opened_file_names};
 ghost use Rattle.cweb_scan.specs.surface.Scan.{IsMarkBelow};
 ghost use Rattle.cweb_out.specs.surface.Outputs.{output_name_at};
-ghost use Rattle.cweb_print.specs.Printing.{setting, file};
+ghost use Rattle.cweb_out.specs.Printing.{setting, file};
 ghost use Rattle.cweb_tools.specs.inner.Does.{SinkCountsFit, ending_of, DoesInOut, DoesInBoth};
 ghost use Rattle.cweb_tools.specs.Acts.{writes};
 ghost use Rattle.cweb_tools.specs.inner.Expanders.{IsReady, StaysReady, output_ending, file_at};
 ghost use Rattle.cweb_tools.specs.inner.Expanders.{planned_files, left_in};
 ghost use Rattle.cweb_tools.specs.Script.{output_acts, outputs_acts};
 
+use crate::log_text::LogLine;
 use crate::saying::say;
 use cweb_lines::{FileNames, Sink, SinkFault, Stop};
-use cweb_log::LogLine;
 use cweb_out::{BinFault, Bins, Expander, OutBuffer, Printer};
 
 /// Why the writing of outputs stopped, and at which output.

@@ -2,12 +2,12 @@
 ghost use Rattle.std.specs.Prelude.{◌≡◌, ◌<◌, ◌+◌, ◌^◌, ℕ, List, [], None, Some, All, IfOk, codes};
 ghost use Rattle.std.specs.Prelude.{map, option_map, string_bytes, IsUtf8};
 ghost use Rattle.cweb_tools.specs.inner.Variables.{Variables};
-ghost use Rattle.cweb_log.specs.Log.{stop_line};
-ghost use Rattle.cweb_log.specs.DeviceModels.{Logs};
+ghost use Rattle.cweb_tools.specs.Log.{stop_line};
+ghost use Rattle.cweb_tools.specs.DeviceModels.{Logs};
 
 use crate::environment::Environment;
+use crate::writing::log_stop;
 use cweb_lines::{Sink, Stop};
-use cweb_log::log_stop;
 use std::alloc::{AllocError, Global};
 
 /// The variable that names the folder in which included files are also searched.

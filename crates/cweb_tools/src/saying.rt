@@ -1,14 +1,16 @@
 // Log lines of `ctangle` that depend on its options.
 ghost use Rattle.std.specs.Prelude.{◌<◌, ◌+◌, ◌^◌};
-ghost use Rattle.cweb_log.specs.inner.LogText.{item_of};
+ghost use Rattle.cweb_tools.specs.inner.LogText.{item_of};
 ghost use Rattle.cweb_tools.specs.inner.Does.{DoesInLog, log_ending};
 ghost use Rattle.cweb_tools.specs.Script.{closing_acts, starred_acts, when};
 ghost use Rattle.cweb_scan.specs.surface.Scan.{scanned_model};
 ghost use Rattle.cweb_tools.specs.Tangle.{numbers_of};
 
+use crate::log_text::{LogLine, LogText};
+use crate::options::Shown;
 use crate::web::count_parts;
+use crate::writing::write_log;
 use cweb_lines::{Sink, SinkFault};
-use cweb_log::{LogLine, LogText, Shown, write_log};
 use cweb_scan::Scanned;
 
 /// Logs a line if it is wanted.

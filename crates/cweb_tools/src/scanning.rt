@@ -3,14 +3,15 @@ ghost use Rattle.std.specs.Prelude.{◌≡◌, ◌<◌, ◌+◌, ◌^◌, Some, 
 ghost use Rattle.std.specs.Option.{option_copied};
 ghost use Rattle.cweb_lines.specs.surface.MergerCalls.{so_far};
 ghost use Rattle.cweb_scan.specs.surface.Scan.{IsScanBelow, scanned_model};
-ghost use Rattle.cweb_log.specs.surface.Options.{options_of};
-ghost use Rattle.cweb_log.specs.DeviceModels.{contents_of, failed_reads};
+ghost use Rattle.cweb_tools.specs.surface.Options.{options_of};
+ghost use Rattle.cweb_tools.specs.DeviceModels.{contents_of, failed_reads};
 ghost use Rattle.cweb_tools.specs.Course.{world_of};
 ghost use Rattle.cweb_tools.specs.inner.Tangle.{CompletesScan, StopsScan, tangle_course};
 
+use crate::options::Options;
 use crate::subjects::{folder, start_subject, subject};
+use crate::writing::log_stop;
 use cweb_lines::{Merger, Shelf, Sink};
-use cweb_log::{Options, log_stop};
 use cweb_scan::{Scanned, scan};
 use std::alloc::Global;
 

@@ -1,12 +1,12 @@
 // What all runs share: the folder of included files, and the names that the lines of stops end in.
 ghost use Rattle.std.specs.Prelude.{◌≡◌};
 ghost use Rattle.std.specs.Option.{option_copied};
-ghost use Rattle.cweb_input.specs.surface.OpenedFileNames as spec;
-ghost use Rattle.cweb_log.specs.inner.LogText.{start_subject, subject};
+ghost use Rattle.cweb_lines.specs.surface.OpenedFileNames as spec;
+ghost use Rattle.cweb_tools.specs.inner.LogText.{start_subject, subject};
 ghost use Rattle.cweb_tools.specs.Course.{change_name, folder_of};
 
+use crate::names::file_name;
 use cweb_lines::{FileNames, Stop};
-use cweb_log::file_name;
 
 /// The folder in which included files are also searched. An empty one counts as none.
 pub(crate) fn folder(inputs: Option<&str>) -> Option<&str>

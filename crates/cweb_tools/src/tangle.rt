@@ -3,11 +3,11 @@ ghost use Rattle.std.specs.Prelude.{◌≡◌, ◌≢◌, ◌<◌, ◌+◌, ◌^
 ghost use Rattle.std.specs.Option.{option_copied};
 ghost use Rattle.cweb_scan.specs.surface.Scan.{scanned_model};
 ghost use Rattle.cweb_out.specs.surface.Outputs.{IsPlanOf};
-ghost use Rattle.cweb_log.specs.CommandLine.{options_by};
-ghost use Rattle.cweb_log.specs.DeviceModels.{CountsFit, contents_of, devices};
+ghost use Rattle.cweb_tools.specs.CommandLine.{options_by};
+ghost use Rattle.cweb_tools.specs.DeviceModels.{CountsFit, contents_of, devices};
 ghost use Rattle.cweb_tools.specs.inner.Does.{SinkCountsFit, DoesInLog, EndsInBoth, log_ending};
-ghost use Rattle.cweb_log.specs.Items.{banner, no_text};
-ghost use Rattle.cweb_log.specs.surface.Options.{options_of};
+ghost use Rattle.cweb_tools.specs.Items.{banner, no_text};
+ghost use Rattle.cweb_tools.specs.surface.Options.{options_of};
 ghost use Rattle.cweb_tools.specs.Acts.{LogsEnding, acts_status, ending};
 ghost use Rattle.cweb_tools.specs.Course.{world_of};
 ghost use Rattle.cweb_tools.specs.Script.{planned_acts, web_acts, when};
@@ -17,13 +17,15 @@ ghost use Rattle.cweb_tools.specs.inner.Tangle.{IsKnown, faults_of, files_of, we
 
 mod unplanned;
 
+use crate::log_text::LogLine;
+use crate::options::{Options, Shown};
 use crate::outputs::write_outputs;
 use crate::saying::{say, say_end, say_starred};
 use crate::scanning::scan_web;
 use crate::tangle::unplanned::tangle_unplanned;
 use crate::web::{Web, say_faults, status};
+use crate::writing::log_stop;
 use cweb_lines::{Shelf, Sink, SinkFault, Stop};
-use cweb_log::{LogLine, Options, Shown, log_stop};
 use cweb_out::{Bins, Expander, OutBuffer, Plan, plan};
 use std::alloc::Global;
 

@@ -2,8 +2,8 @@
 ghost use Rattle.std.specs.Prelude.{◌≡◌, ◌<◌, map, None};
 ghost use Rattle.std.specs.Option.{option_copied};
 ghost use Rattle.cweb_out.specs.surface.Outputs.{IsPlanOf};
-ghost use Rattle.cweb_log.specs.CommandLine.{options_by};
-ghost use Rattle.cweb_log.specs.DeviceModels.{CountsFit, contents_of, devices};
+ghost use Rattle.cweb_tools.specs.CommandLine.{options_by};
+ghost use Rattle.cweb_tools.specs.DeviceModels.{CountsFit, contents_of, devices};
 ghost use Rattle.cweb_tools.specs.inner.Does.{SinkCountsFit, EndsInBoth};
 ghost use Rattle.cweb_tools.specs.Acts.{acts_status};
 ghost use Rattle.cweb_tools.specs.Course.{world_of};
@@ -14,12 +14,14 @@ ghost use Rattle.cweb_tools.specs.inner.Tangle.{fault_count, plan_made, status_b
 ghost use Rattle.cweb_tools.specs.inner.Tangle.{files_of, web_in};
 
 use crate::depfile::depfile;
+use crate::log_text::{LogLine, LogText};
+use crate::options::Options;
 use crate::rule_targets::Targets;
 use crate::saying::say;
 use crate::scanning::scan_web;
 use crate::web::{Web, say_faults, status};
+use crate::writing::{log_stop, write_log};
 use cweb_lines::{Shelf, Sink, Stop, write_all};
-use cweb_log::{LogLine, LogText, Options, log_stop, write_log};
 use cweb_out::{Plan, plan};
 use std::alloc::Global;
 

@@ -4,13 +4,14 @@ ghost use Rattle.std.specs.List.{flat_map};
 ghost use Rattle.cweb_lines.specs.surface.MergerCalls.{so_far};
 ghost use Rattle.cweb_scan.specs.surface.Scan.{IsScanBelow, scanned_model};
 ghost use Rattle.cweb_files.specs.surface.Writes.{Wrote};
-ghost use Rattle.cweb_log.specs.Items.{line};
+ghost use Rattle.cweb_tools.specs.Items.{line};
 ghost use Rattle.cweb_tools.specs.inner.Tangle.{fault_count, IsKnown, faults_of, files_of};
 ghost use Rattle.cweb_tools.specs.inner.Tangle.{said_faults};
 ghost use Rattle.cweb_tools.specs.inner.Does.{DoesInLog, log_ending};
 
+use crate::log_text::LogText;
+use crate::writing::write_log;
 use cweb_lines::{FileNames, Merger, Shelf, Sink, SinkFault, SourceFault};
-use cweb_log::{LogText, write_log};
 use cweb_scan::Scanned;
 use cweb_store::{Parts, Store};
 

@@ -1,20 +1,22 @@
 // A run of `wmerge`.
 ghost use Rattle.std.specs.Prelude.{◌≡◌, ◌<◌, ◌+◌, ◌^◌, map, None, Some};
 ghost use Rattle.std.specs.Option.{option_copied};
-ghost use Rattle.cweb_input.specs.surface.OpenedFileNames as spec;
+ghost use Rattle.cweb_lines.specs.surface.OpenedFileNames as spec;
 ghost use Rattle.cweb_lines.specs.surface.MergerCalls.{stop_in};
-ghost use Rattle.cweb_log.specs.Items.{source_item};
-ghost use Rattle.cweb_log.specs.inner.LogText.{merge_word_names};
-ghost use Rattle.cweb_log.specs.DeviceModels.{CountsFit, contents_of, devices};
-ghost use Rattle.cweb_log.specs.CommandLine.{web_names_by};
+ghost use Rattle.cweb_tools.specs.Items.{source_item};
+ghost use Rattle.cweb_tools.specs.inner.LogText.{merge_word_names};
+ghost use Rattle.cweb_tools.specs.DeviceModels.{CountsFit, contents_of, devices};
+ghost use Rattle.cweb_tools.specs.CommandLine.{web_names_by};
 ghost use Rattle.cweb_tools.specs.inner.Does.{MergesBegun, EndsMerge, merge_course, EndsInLog};
 ghost use Rattle.cweb_tools.specs.Acts.{acts_status, says};
 ghost use Rattle.cweb_tools.specs.Course.{world_of};
 ghost use Rattle.cweb_tools.specs.MergeActs.{MergePromises, MergesFreely};
 
+use crate::log_text::LogText;
 use crate::subjects::{folder, start_subject, subject};
+use crate::words::MergeWords;
+use crate::writing::{log_stop, write_log};
 use cweb_lines::{FileNames, Merger, Shelf, Sink, SourceFault, write_merged_in_chunks};
-use cweb_log::{LogText, MergeWords, log_stop, write_log};
 use std::alloc::Global;
 
 /// The size of the output buffer.

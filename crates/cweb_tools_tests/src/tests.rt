@@ -13,6 +13,7 @@ mod many_faults;
 mod merges;
 mod merging;
 mod options;
+mod surface;
 mod tangling;
 mod wanted;
 mod web_faults;

@@ -2,23 +2,23 @@
 use Rattle.std.specs.Prelude.{◌≡◌, ◌<◌, ℕ, List, [], ◌∷◌, ◌++◌, map, Option, None, Some, ◌+◌, ◌||◌}
 use Rattle.cweb_files.specs.declared.place.Place.{Place}
 use Rattle.cweb_lines.specs.Change.{Sought, at_place, sought, OldSide, dropping, old_lines}
-use Rattle.cweb_input.specs.Lines.{SourceLine, Thing}
+use Rattle.cweb_lines.specs.Lines.{SourceLine, Thing}
 use Rattle.cweb_lines.specs.Events.{Event, took, fault}
 use Rattle.cweb_lines.specs.surface.MergeProgress.{SoFar, EmitsLines, pending_in, change_in, Stopped, change_lines}
 use Rattle.cweb_lines.specs.inner.Stages.{IsOutside, IsSettled}
 use Rattle.cweb_lines.specs.declared.change.code.Code.{Code}
 use Rattle.cweb_lines.specs.declared.change.code.Code.TheVariants.{OldSide as old_side, NewSide as new_side}
 use Rattle.cweb_lines.specs.declared.change.code.Code.TheVariants.{EndSide as end_side}
-use Rattle.cweb_input.specs.declared.fault.SourceFault.{SourceFault}
-use Rattle.cweb_input.specs.declared.fault.SourceKind.TheVariants.{MissingX}
+use Rattle.cweb_lines.specs.declared.fault.SourceFault.{SourceFault}
+use Rattle.cweb_lines.specs.declared.fault.SourceKind.TheVariants.{MissingX}
 use Rattle.cweb_lines.specs.declared.change.seek.Look.{Look}
 use Rattle.cweb_lines.specs.declared.change.seek.Look.TheVariants.{Entry as first_line, On as goes_on}
 use Rattle.cweb_lines.specs.declared.change.Stage.{Stage}
 use Rattle.cweb_lines.specs.Merge.{after_old, change_events}
-use Rattle.cweb_input.specs.declared.stop.Stop.{Stop}
+use Rattle.cweb_lines.specs.declared.stop.Stop.{Stop}
 use Rattle.cweb_lines.specs.declared.change.old_side.Replaced.{Replaced}
 use Rattle.cweb_lines.specs.declared.merge_state.MergeState.{MergeState}
-use Rattle.cweb_input.specs.surface.OpenSources.{things_above}
+use Rattle.cweb_lines.specs.surface.OpenSources.{things_above}
 
 -- A search after this line and its faults.
 abbrev pub search_after : SourceLine → List SourceFault → Sought → Sought

@@ -1,14 +1,14 @@
 -- How far a merge is: steps, turns and output.
 use Rattle.std.specs.Prelude.{◌≡◌, ◌<◌, ◌≤◌, ◌+◌, ◌*◌, ◌-◌, ℕ, length, List, [], ◌∷◌, Option, ◌++◌}
-use Rattle.cweb_input.specs.Lines.{Line, SourceLine}
-use Rattle.cweb_input.specs.surface.OpenedFileNames.{IsOneLine, world_in}
+use Rattle.cweb_lines.specs.Lines.{Line, SourceLine}
+use Rattle.cweb_lines.specs.surface.OpenedFileNames.{IsOneLine, world_in}
 use Rattle.cweb_lines.specs.Events.{Event, took, written_lines}
 use Rattle.cweb_lines.specs.surface.EnoughSteps.{merge}
 use Rattle.cweb_lines.specs.inner.Stages.{weight_of}
-use Rattle.cweb_input.specs.inner.OpenSources.{raw_thing}
+use Rattle.cweb_lines.specs.inner.OpenSources.{raw_thing}
 use Rattle.cweb_lines.specs.declared.merge_state.MergeState.{MergeState}
 use Rattle.cweb_lines.specs.declared.change.Stage.{Stage}
-use Rattle.cweb_input.specs.declared.open_source.LineAt.{LineAt}
+use Rattle.cweb_lines.specs.declared.open_source.LineAt.{LineAt}
 use Rattle.cweb_lines.specs.declared.step.Turn.{Turn}
 use Rattle.cweb_lines.specs.declared.step.Turn.TheVariants.{Emitted, On, Ended}
 use Rattle.cweb_lines.specs.surface.MergeProgress.{SoFar, EmitsLines, state_of, things_of, NothingLeft}

@@ -2,22 +2,22 @@
 use Rattle.std.specs.Prelude.{◌≡◌, ℕ, ◌+◌, ◌-◌, ◌<◌, ◌≤◌, Bool, false, List, [], ◌∷◌, ◌++◌, length, map, slice_range}
 use Rattle.std.specs.Prelude.{slice_index_or, Option, None, Some, take}
 use Rattle.cweb_lines.specs.Change.{WaitingEntry}
-use Rattle.cweb_input.specs.Include.{is_include_line}
-use Rattle.cweb_input.specs.Lines.{Line, SourceLine, CutLine, numbered_lines, trimmed, Thing, raws}
-use Rattle.cweb_input.specs.surface.OpenedFileNames.{HasNoNewline}
+use Rattle.cweb_lines.specs.Include.{is_include_line}
+use Rattle.cweb_lines.specs.Lines.{Line, SourceLine, CutLine, numbered_lines, trimmed, Thing, raws}
+use Rattle.cweb_lines.specs.surface.OpenedFileNames.{HasNoNewline}
 use Rattle.cweb_lines.specs.Events.{written_lines}
 use Rattle.cweb_lines.specs.surface.MergeProgress.{EmitsLines, so_far_of, events_to_come, pending_of}
-use Rattle.cweb_input.specs.surface.OpenSources.{AreReadersNamed, IsReaderNamed, lines_at, matches_at, number_or_zero}
-use Rattle.cweb_input.specs.surface.OpenSources.{source_depth, things_above}
+use Rattle.cweb_lines.specs.surface.OpenSources.{AreReadersNamed, IsReaderNamed, lines_at, matches_at, number_or_zero}
+use Rattle.cweb_lines.specs.surface.OpenSources.{source_depth, things_above}
 use Rattle.cweb_lines.specs.surface.MergerCalls.{AreReadersKnown}
 use Rattle.cweb_lines.specs.inner.Stages.{IsSettled, begun_by, floor_of}
-use Rattle.cweb_input.specs.inner.OpenSources.{AreDeep, DeepAt, StaysBelow, files_up_to, maximum_of}
-use Rattle.cweb_input.specs.declared.counters.TakenCounters.{TakenCounters}
-use Rattle.cweb_input.specs.declared.limits.TheConstants.{LINES, BYTES, LINE_LENGTH}
+use Rattle.cweb_lines.specs.inner.OpenSources.{AreDeep, DeepAt, StaysBelow, files_up_to, maximum_of}
+use Rattle.cweb_lines.specs.declared.counters.TakenCounters.{TakenCounters}
+use Rattle.cweb_lines.specs.declared.limits.TheConstants.{LINES, BYTES, LINE_LENGTH}
 use Rattle.cweb_lines.specs.declared.passing.stretch.Stretch.{Stretch}
 use Rattle.cweb_lines.specs.declared.merge_state.MergeState.{MergeState}
-use Rattle.cweb_input.specs.declared.open_source.stack.Stack.{Stack}
-use Rattle.cweb_input.specs.declared.open_source.OpenSource.{OpenSource}
+use Rattle.cweb_lines.specs.declared.open_source.stack.Stack.{Stack}
+use Rattle.cweb_lines.specs.declared.open_source.OpenSource.{OpenSource}
 
 -- A raw line passes through: it is no include line and doesn't begin the entry that waits.
 pub record PassesThrough (entry : Option WaitingEntry) (may_match : Bool) (raw : List ℕ) : Type 0 where

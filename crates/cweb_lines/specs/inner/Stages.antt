@@ -3,13 +3,13 @@ use Rattle.std.specs.Prelude.{◌≢◌, ℕ, ◌+◌, ◌&&◌, Bool, List, Opt
 use Rattle.std.specs.Str.{bytes_eq}
 use Rattle.cweb_files.specs.declared.place.Place.{Place}
 use Rattle.cweb_lines.specs.Change.{WaitingEntry}
-use Rattle.cweb_input.specs.Include.{Found}
+use Rattle.cweb_lines.specs.Include.{Found}
 use Rattle.cweb_lines.specs.declared.change.Stage.{Stage}
 use Rattle.cweb_lines.specs.declared.change.Stage.TheVariants.{Done, Seeking, Waiting, Changing}
-use Rattle.cweb_input.specs.declared.open_source.OpenSource.{OpenSource}
-use Rattle.cweb_input.specs.surface.OpenSources.{files_named}
-use Rattle.cweb_input.specs.declared.fault.SourceFault.{SourceFault}
-use Rattle.cweb_input.specs.declared.stop.Stop.{Stop}
+use Rattle.cweb_lines.specs.declared.open_source.OpenSource.{OpenSource}
+use Rattle.cweb_lines.specs.surface.OpenSources.{files_named}
+use Rattle.cweb_lines.specs.declared.fault.SourceFault.{SourceFault}
+use Rattle.cweb_lines.specs.declared.stop.Stop.{Stop}
 
 -- The number of sources that stay open.
 abbrev pub floor_of : Stage → ℕ

@@ -2,14 +2,14 @@
 use Rattle.std.specs.Prelude.{Result, ◌≡◌, ◌≤◌, ◌<◌, ◌+◌, ℕ, List, length, None, Option, Ok, Err, IfOk, IfErr, OnOk}
 use Rattle.std.specs.Prelude.{OnErr}
 use Rattle.cweb_files.specs.Shelves.{Observed, ShelfModel, ShelfContents}
-use Rattle.cweb_input.specs.surface.OpenedFileNames.{opened_file_names}
-use Rattle.cweb_input.specs.surface.OpenSources.{BlamesFile, name_of_file, counters_of, StopsReading, files_named}
-use Rattle.cweb_input.specs.surface.OpenSources.{ReadsShelf}
+use Rattle.cweb_lines.specs.surface.OpenedFileNames.{opened_file_names}
+use Rattle.cweb_lines.specs.surface.OpenSources.{BlamesFile, name_of_file, counters_of, StopsReading, files_named}
+use Rattle.cweb_lines.specs.surface.OpenSources.{ReadsShelf}
 use Rattle.cweb_lines.specs.declared.merge_state.MergeState.{MergeState}
-use Rattle.cweb_input.specs.declared.stop.Stop.{Stop}
+use Rattle.cweb_lines.specs.declared.stop.Stop.{Stop}
 use Rattle.cweb_lines.specs.surface.MergerCalls.{AreReadersKnown, StopsThere}
-use Rattle.cweb_input.specs.inner.LineCalls.{AnswersLine}
-use Rattle.cweb_input.specs.Lines.{Line, SourceLine}
+use Rattle.cweb_lines.specs.inner.LineCalls.{AnswersLine}
+use Rattle.cweb_lines.specs.Lines.{Line, SourceLine}
 use Rattle.cweb_lines.specs.Events.{Event}
 use Rattle.cweb_lines.specs.inner.MergeProgress.{TurnCounts, TurnEnds, TurnGains, TurnKnown, TurnLine, turns_left}
 use Rattle.cweb_lines.specs.inner.MergeProgress.{EmitsAfterLine, events_after_line, turn_lines}
@@ -17,8 +17,8 @@ use Rattle.cweb_lines.specs.inner.Stages.{IsSettled, begun_by}
 use Rattle.cweb_lines.specs.surface.MergeProgress.{EmitsLines, KeepsReported, events_to_come, pending_of, so_far_of}
 use Rattle.cweb_lines.specs.declared.change.old_side.Replaced.{Replaced}
 use Rattle.cweb_lines.specs.declared.step.Turn.{Turn}
-use Rattle.cweb_input.specs.declared.open_source.LineAt.{LineAt}
-use Rattle.cweb_input.specs.declared.stop.Stop.TheVariants.{Memory}
+use Rattle.cweb_lines.specs.declared.open_source.LineAt.{LineAt}
+use Rattle.cweb_lines.specs.declared.stop.Stop.TheVariants.{Memory}
 
 -- Only the faults change.
 pub record OnlyReports {R : Type 0} (old new : MergeState R) : Type 0 where

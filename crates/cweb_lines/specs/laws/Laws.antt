@@ -3,16 +3,16 @@ use Rattle.std.specs.Prelude.{◌≡◌, ◌≢◌, ◌<◌, ◌≤◌, ℕ, ◌
 use Rattle.std.specs.List.{AllByRecursion, list_any}
 use Rattle.std.specs.Option.{is_some}
 use Rattle.std.specs.Str.{bytes_eq}
-use Rattle.cweb_input.specs.Lines.{Line, SourceLine, lines_in}
-use Rattle.cweb_input.specs.laws.Lines.{lines}
-use Rattle.cweb_input.specs.Include.{World, found_at, include_name, is_include_line}
+use Rattle.cweb_lines.specs.Lines.{Line, SourceLine, lines_in}
+use Rattle.cweb_lines.specs.laws.Lines.{lines}
+use Rattle.cweb_lines.specs.Include.{World, found_at, include_name, is_include_line}
 use Rattle.cweb_lines.specs.Change.{at_place, change_code}
 use Rattle.cweb_lines.specs.laws.MergeOutcome.{followed_by, only_fault, only_lines, only_name, placed}
 use Rattle.cweb_lines.specs.laws.MergeOutcome.{MergeOutcome, outcome_of_lines, merge_outcome}
 use Rattle.cweb_lines.specs.declared.change.code.Code.TheVariants.{EndSide as end_side, NewSide as new_side}
 use Rattle.cweb_lines.specs.declared.change.code.Code.TheVariants.{OldSide as old_side}
-use Rattle.cweb_input.specs.declared.fault.SourceKind.TheVariants.{NoMatch, NoName, NotThere, TooDeep}
-use Rattle.cweb_input.specs.declared.limits.TheConstants.{OPEN_FILES}
+use Rattle.cweb_lines.specs.declared.fault.SourceKind.TheVariants.{NoMatch, NoName, NotThere, TooDeep}
+use Rattle.cweb_lines.specs.declared.limits.TheConstants.{OPEN_FILES}
 
 -- A web without include lines and change file merges to its own lines, in order, numbered and without a fault.
 abbrev pub WebsWithoutIncludesAreTheirOwnLines : Type 0

@@ -1,15 +1,15 @@
 -- Every merge has one result. Its outcome for an author.
 use Rattle.std.specs.Prelude.{ℕ, ◌+◌, true, List, [], ◌∷◌, ◌++◌, Option, None, ◌≡◌}
 use Rattle.cweb_files.specs.declared.place.Place.{Place}
-use Rattle.cweb_input.specs.Lines.{Line, SourceLine, raws}
-use Rattle.cweb_input.specs.laws.Lines.{lines}
-use Rattle.cweb_input.specs.Include.{World}
+use Rattle.cweb_lines.specs.Lines.{Line, SourceLine, raws}
+use Rattle.cweb_lines.specs.laws.Lines.{lines}
+use Rattle.cweb_lines.specs.Include.{World}
 use Rattle.cweb_lines.specs.Change.{at_place}
 use Rattle.cweb_lines.specs.Events.{Event, emitted_lines, reported_faults, openings}
 use Rattle.cweb_lines.specs.Merge.{started, MergeStateModel, Yields}
 use Rattle.cweb_lines.specs.surface.EnoughSteps.{merge}
-use Rattle.cweb_input.specs.declared.fault.SourceFault.{SourceFault}
-use Rattle.cweb_input.specs.declared.fault.SourceKind.{SourceKind}
+use Rattle.cweb_lines.specs.declared.fault.SourceFault.{SourceFault}
+use Rattle.cweb_lines.specs.declared.fault.SourceKind.{SourceKind}
 
 -- The lines with their places, the faults, and the names of included files.
 pub record MergeOutcome : Type 0 where

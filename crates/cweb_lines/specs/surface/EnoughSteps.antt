@@ -1,9 +1,9 @@
 -- All events of a merge, by a number of steps that is enough. Nothing rests on that number: `merge_has_one_answer`
 -- says that each number that is enough yields the same events.
 use Rattle.std.specs.Prelude.{ℕ, zero, suc, ◌+◌, ◌-◌, List, [], ◌∷◌, Option, None, Some, unwrap_or}
-use Rattle.cweb_input.specs.Lines.{CutLine, cut_lines, trimmed, SourceLine, Thing, raw}
-use Rattle.cweb_input.specs.Include.{World, Found, include_name, found_at}
-use Rattle.cweb_input.specs.declared.limits.TheConstants.{OPEN_FILES}
+use Rattle.cweb_lines.specs.Lines.{CutLine, cut_lines, trimmed, SourceLine, Thing, raw}
+use Rattle.cweb_lines.specs.Include.{World, Found, include_name, found_at}
+use Rattle.cweb_lines.specs.declared.limits.TheConstants.{OPEN_FILES}
 use Rattle.cweb_lines.specs.Change.{WaitingEntry}
 use Rattle.cweb_lines.specs.Events.{Event}
 use Rattle.cweb_lines.specs.Merge.{MergeStateModel, run_steps}

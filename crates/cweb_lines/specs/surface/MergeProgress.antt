@@ -1,24 +1,24 @@
 -- How far a merger is, what is to come at its stage, and why it stops.
 use Rattle.std.specs.Prelude.{ℕ, List, [], ◌∷◌, ◌++◌, Option, None, Some, ◌≡◌, ◌+◌, length}
 use Rattle.cweb_lines.specs.Change.{WaitingEntry}
-use Rattle.cweb_input.specs.Lines.{SourceLine, Thing, seek, Line}
+use Rattle.cweb_lines.specs.Lines.{SourceLine, Thing, seek, Line}
 use Rattle.cweb_lines.specs.Merge.{new_lines, MergeStateModel}
-use Rattle.cweb_input.specs.surface.OpenSources.{things_over, things_above, counters_of, lines_at}
-use Rattle.cweb_input.specs.declared.open_source.stack.Stack.{Stack}
+use Rattle.cweb_lines.specs.surface.OpenSources.{things_over, things_above, counters_of, lines_at}
+use Rattle.cweb_lines.specs.declared.open_source.stack.Stack.{Stack}
 use Rattle.cweb_lines.specs.declared.change.Change.{Change}
 use Rattle.cweb_lines.specs.declared.change.Stage.{Stage}
 use Rattle.cweb_lines.specs.declared.change.Stage.TheVariants.{Done, Seeking, Waiting, Changing}
 use Rattle.cweb_lines.specs.Events.{Event, took, fault, emitted_lines, reported_faults, openings, taken_lines}
 use Rattle.cweb_lines.specs.Events.{size_of_lines, AreShort}
-use Rattle.cweb_input.specs.OpenSources.{TakenCountersModel, RefusesLine}
-use Rattle.cweb_input.specs.declared.fault.SourceFault.{SourceFault}
-use Rattle.cweb_input.specs.declared.fault.SourceKind.{SourceKind}
-use Rattle.cweb_input.specs.declared.fault.SourceKind.TheVariants.{NoOldLines, EndedBeforeY, EndedBeforeZ, NoMatch}
-use Rattle.cweb_input.specs.declared.stop.Stop.{Stop}
+use Rattle.cweb_lines.specs.OpenSources.{TakenCountersModel, RefusesLine}
+use Rattle.cweb_lines.specs.declared.fault.SourceFault.{SourceFault}
+use Rattle.cweb_lines.specs.declared.fault.SourceKind.{SourceKind}
+use Rattle.cweb_lines.specs.declared.fault.SourceKind.TheVariants.{NoOldLines, EndedBeforeY, EndedBeforeZ, NoMatch}
+use Rattle.cweb_lines.specs.declared.stop.Stop.{Stop}
 use Rattle.cweb_lines.specs.surface.EnoughSteps.{merge}
-use Rattle.cweb_input.specs.surface.OpenedFileNames.{world_in, opened_file_names}
+use Rattle.cweb_lines.specs.surface.OpenedFileNames.{world_in, opened_file_names}
 use Rattle.cweb_lines.specs.declared.merge_state.MergeState.{MergeState}
-use Rattle.cweb_input.specs.declared.stop.Stop.TheVariants.{ReadFault, LineTooLong, TooMuchText, Memory}
+use Rattle.cweb_lines.specs.declared.stop.Stop.TheVariants.{ReadFault, LineTooLong, TooMuchText, Memory}
 
 -- The entry that waits, with its first old line.
 abbrev pub pending_in : Stage → List ℕ → Option WaitingEntry

@@ -6,16 +6,16 @@ use Rattle.cweb_files.specs.surface.Writes.{Prints, WritesPrefix}
 use Rattle.cweb_files.specs.Shelves.{Observed}
 use Rattle.cweb_files.specs.declared.device.Shelf.{Ghosts as Shelf}
 use Rattle.cweb_files.specs.declared.device.Sink.{Ghosts as Sink}
-use Rattle.cweb_input.specs.Lines.{Line}
+use Rattle.cweb_lines.specs.Lines.{Line}
 use Rattle.cweb_lines.specs.Events.{Event, emitted_lines, written_lines}
 use Rattle.cweb_lines.specs.surface.MergeProgress.{SoFar, EmitsLines, StopsAfterLines}
 use Rattle.cweb_lines.specs.surface.MergeProgress.{ReadFailsAfterLines, ReportsPrefix}
-use Rattle.cweb_input.specs.surface.OpenSources.{files_named, ReadsShelf}
+use Rattle.cweb_lines.specs.surface.OpenSources.{files_named, ReadsShelf}
 use Rattle.cweb_lines.specs.surface.MergerCalls.{Grows, HasEnded, KnowsReaders, StaysKnown, lines_to_come, so_far}
 use Rattle.cweb_lines.specs.surface.MergerCalls.{stop_in, to_come}
 use Rattle.cweb_lines.specs.declared.merger.Merger.{Merger}
-use Rattle.cweb_input.specs.declared.stop.Stop.{Stop}
-use Rattle.cweb_input.specs.declared.stop.Stop.TheVariants.{ReadFault, LineTooLong, TooMuchText, Memory, WriteFault}
+use Rattle.cweb_lines.specs.declared.stop.Stop.{Stop}
+use Rattle.cweb_lines.specs.declared.stop.Stop.TheVariants.{ReadFault, LineTooLong, TooMuchText, Memory, WriteFault}
 
 -- This text was written to a sink.
 abbrev pub Writes : SinkModel → SinkModel → List ℕ → Type 0

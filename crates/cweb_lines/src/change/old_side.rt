@@ -5,21 +5,22 @@ ghost use Rattle.std.specs.Prelude.{OnOk, OnErr};
 ghost use Rattle.cweb_lines.specs.inner.StepCalls.{GoesOn, Reads, TakesAway, outcome};
 ghost use Rattle.cweb_lines.specs.inner.StepCalls.{OnlyTakes, OnlyReports};
 ghost use Rattle.cweb_lines.specs.Merge.{change_events, closing_faults, fault_if};
-ghost use Rattle.cweb_input.specs.surface.OpenSources.{counters_of, StopsFor, things_above};
+ghost use Rattle.cweb_lines.specs.surface.OpenSources.{counters_of, StopsFor, things_above};
 ghost use Rattle.cweb_lines.specs.surface.MergeProgress.{ReportsPrefix, change_lines, things_of, so_far_of};
-ghost use Rattle.cweb_input.specs.surface.OpenedFileNames.{opened_file_names};
+ghost use Rattle.cweb_lines.specs.surface.OpenedFileNames.{opened_file_names};
 ghost use Rattle.cweb_lines.specs.inner.ChangeProgress.{Compares, IsChanged, IsReplaced};
 ghost use Rattle.cweb_lines.specs.inner.ChangeProgress.{old_side_of, ReportsFaultPrefix};
 ghost use Rattle.cweb_lines.specs.inner.ChangeProgress.{StopsOldSide};
 ghost use Rattle.cweb_lines.specs.inner.Stages.{floor_of};
-ghost use Rattle.cweb_input.specs.inner.OpenSources.{TopStops};
+ghost use Rattle.cweb_lines.specs.inner.OpenSources.{TopStops};
 
 use crate::change::code::{Code, change_code};
 use crate::change::{Change, Stage};
+use crate::fault::SourceKind;
 use crate::merge_state::MergeState;
 use crate::step::progress::{take_change, take_raw};
+use crate::stop::Stop;
 use cweb_files::{Place, Shelf};
-use cweb_input::{SourceKind, Stop};
 use std::mem::swap;
 
 /// What comparing the old lines after the first found.

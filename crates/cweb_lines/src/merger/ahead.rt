@@ -3,14 +3,14 @@ ghost use Rattle.std.specs.Prelude.{◌≡◌, ◌≤◌, ◌+◌, ℕ, List, []
 ghost use Rattle.cweb_lines.specs.inner.Ahead.{FitsLimits, IsAhead, LooksAhead, LooksAheadIn, TakesLines};
 ghost use Rattle.cweb_lines.specs.inner.Passing.{ComesNext, IsStretchOf};
 ghost use Rattle.cweb_lines.specs.surface.MergeProgress.{pending_in};
-ghost use Rattle.cweb_input.specs.declared.counters.TakenCounters.{TakenCounters};
+ghost use Rattle.cweb_lines.specs.declared.counters.TakenCounters.{TakenCounters};
 
 use crate::change::Stage;
 use crate::merger::Merger;
+use crate::open_source::OpenSource;
 use crate::passing::line_span::LineSpan;
 use crate::passing::stretch::{Stretch, line_from};
 use cweb_files::{Place, Shelf};
-use cweb_input::OpenSource;
 
 /// Next lines that were not taken yet: the last of them, and all of them.
 #[derive(Clone, Copy)]

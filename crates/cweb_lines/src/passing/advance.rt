@@ -5,13 +5,16 @@ ghost use Rattle.cweb_lines.specs.inner.Passing.{ComesNext, EmitsBufferedLines, 
 ghost use Rattle.cweb_lines.specs.inner.Passing.{KeepsTop, PassesSlot, PassesTop, IsStretchAt};
 ghost use Rattle.cweb_lines.specs.inner.Passing.{IsStretchOf, lines_next, buffer_of, with_newlines};
 ghost use Rattle.cweb_lines.specs.inner.Passing.{top_of};
-ghost use Rattle.cweb_input.specs.inner.OpenSources.{line_number, maximum_of};
-ghost use Rattle.cweb_input.specs.surface.OpenSources.{number_or_zero};
-ghost use Rattle.cweb_input.specs.declared.limits.TheConstants.{OPEN_FILES};
+ghost use Rattle.cweb_lines.specs.inner.OpenSources.{line_number, maximum_of};
+ghost use Rattle.cweb_lines.specs.surface.OpenSources.{number_or_zero};
+ghost use Rattle.cweb_lines.specs.declared.limits.TheConstants.{OPEN_FILES};
 
+use crate::counters::TakenCounters;
+use crate::limits::OPEN_FILES;
 use crate::merge_state::MergeState;
+use crate::open_source::OpenSource;
+use crate::open_source::stack::Stack;
 use crate::passing::stretch::Stretch;
-use cweb_input::{OPEN_FILES, OpenSource, Stack, TakenCounters};
 
 #[inline(always)]
 fn advance_source<R: Drop>(text: &mut OpenSource<R>, limits: &mut TakenCounters, stretch: Stretch)

@@ -4,14 +4,18 @@ ghost use Rattle.cweb_lines.specs.inner.Ahead.{FitsLimits, FitsLimitsAt};
 ghost use Rattle.cweb_lines.specs.inner.Passing.{Reaches, IsStretchOf, ComesNext, HasRoomFor};
 ghost use Rattle.cweb_lines.specs.inner.Passing.{OnlyLastExceeds, stretch_bytes, top_of};
 ghost use Rattle.cweb_lines.specs.surface.MergeProgress.{pending_in};
-ghost use Rattle.cweb_input.specs.declared.limits.TheConstants.{LINES};
+ghost use Rattle.cweb_lines.specs.declared.limits.TheConstants.{LINES};
 
 use crate::change::Stage;
+use crate::counters::TakenCounters;
+use crate::cut::newline_at;
+use crate::include::is_include_line;
+use crate::limits::LINE_LENGTH;
 use crate::merge_state::MergeState;
+use crate::open_source::OpenSource;
+use crate::open_source::take::trimmed_length;
+use crate::source::Source;
 use crate::step::turning::begun_at;
-use cweb_input::{
-    LINE_LENGTH, OpenSource, Source, TakenCounters, is_include_line, newline_at, trimmed_length,
-};
 
 /// Adjacent buffered lines that pass through. Only the last may have trailing blanks, so one copy prints them.
 #[derive(Clone, Copy)]

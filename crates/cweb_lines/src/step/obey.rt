@@ -2,21 +2,24 @@
 ghost use Rattle.std.specs.Prelude.{◌≡◌, ◌≤◌, ◌<◌, ◌+◌, ◌++◌, ◌∷◌, [], length, IfOk, IfErr, OnOk};
 ghost use Rattle.std.specs.Prelude.{OnErr, string_bytes, true, ℕ, List};
 ghost use Rattle.cweb_lines.specs.inner.StepCalls.{IsPlainLine, Obeys, OnlyOpens};
-ghost use Rattle.cweb_input.specs.Include as spec;
+ghost use Rattle.cweb_lines.specs.Include as spec;
 ghost use Rattle.cweb_lines.specs.inner.MergeProgress.{turn_lines, IsTaken, TurnKnown};
 ghost use Rattle.cweb_lines.specs.surface.MergeProgress.{KeepsReported, so_far_of};
-ghost use Rattle.cweb_input.specs.surface.OpenedFileNames.{opened_file_names};
-ghost use Rattle.cweb_input.specs.declared.limits.TheConstants.{OPEN_FILES};
-ghost use Rattle.cweb_input.specs.inner.OpenSources.{OpensSource, StaysBelow};
+ghost use Rattle.cweb_lines.specs.surface.OpenedFileNames.{opened_file_names};
+ghost use Rattle.cweb_lines.specs.declared.limits.TheConstants.{OPEN_FILES};
+ghost use Rattle.cweb_lines.specs.inner.OpenSources.{OpensSource, StaysBelow};
 ghost use Rattle.cweb_lines.specs.surface.MergerCalls.{AreReadersKnown};
 
+use crate::fault::SourceKind;
+use crate::files::find::{Opening, find};
+use crate::include::{include_name, is_include_line};
+use crate::limits::OPEN_FILES;
 use crate::merge_state::MergeState;
+use crate::open_source::{LineAt, OpenSource};
+use crate::source::Source;
 use crate::step::Turn;
+use crate::stop::Stop;
 use cweb_files::{FileId, Shelf};
-use cweb_input::{
-    LineAt, OPEN_FILES, OpenSource, Opening, Source, SourceKind, Stop, find, include_name,
-    is_include_line,
-};
 
 // Opens an included file. Its lines are next, one deeper than the include line, and match as it does.
 fn open<R: Drop>(run: &mut MergeState<R>, opening: Opening<R>, at: LineAt) -> Result<(), Stop>

@@ -1,20 +1,22 @@
 // Elementary actions of a merger: taking a line and reporting a fault.
 ghost use Rattle.cweb_files.specs.Shelves.{Observed};
-ghost use Rattle.std.specs.Prelude.{◌≡◌, ◌<◌, ◌+◌, ◌^◌, ◌++◌, ◌∷◌, [], length, IsTrue, IfOk, IfErr};
-ghost use Rattle.std.specs.Prelude.{OnOk, OnErr};
-ghost use Rattle.cweb_input.specs.inner.LineCalls.{ClosesAbove};
-ghost use Rattle.cweb_input.specs.surface.OpenSources.{counters_of, StopsFor};
+ghost use Rattle.std.specs.Prelude.{◌≡◌, ◌<◌, ◌+◌, ◌^◌, ◌++◌, ◌∷◌, [], length, IsTrue, IfOk, IfErr, OnOk, OnErr};
+ghost use Rattle.cweb_lines.specs.inner.LineCalls.{ClosesAbove};
+ghost use Rattle.cweb_lines.specs.surface.OpenSources.{counters_of, StopsFor};
 ghost use Rattle.cweb_lines.specs.surface.MergeProgress.{NothingLeft, change_lines};
-ghost use Rattle.cweb_input.specs.surface.OpenedFileNames.{opened_file_names};
+ghost use Rattle.cweb_lines.specs.surface.OpenedFileNames.{opened_file_names};
 ghost use Rattle.cweb_lines.specs.inner.Stages.{floor_of};
 ghost use Rattle.cweb_lines.specs.inner.StepCalls.{OnlyReports, TakesLine};
-ghost use Rattle.cweb_input.specs.inner.OpenSources.{TakesNextLine, TakesAbove};
-ghost use Rattle.cweb_input.specs.inner.OpenSources.{FirstStops, StopsAbove};
+ghost use Rattle.cweb_lines.specs.inner.OpenSources.{TakesNextLine, TakesAbove, FirstStops, StopsAbove};
 
 use crate::change::Stage;
+use crate::fault::{SourceFault, SourceKind};
 use crate::merge_state::MergeState;
+use crate::open_source::LineAt;
+use crate::open_source::stack::take_above;
+use crate::open_source::take::take_from;
+use crate::stop::Stop;
 use cweb_files::{Place, Shelf};
-use cweb_input::{LineAt, SourceFault, SourceKind, Stop, take_above, take_from};
 use std::alloc::AllocError;
 
 impl<R: Drop> MergeState<R> {

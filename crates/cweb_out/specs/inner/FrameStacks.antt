@@ -2,17 +2,17 @@
 use Rattle.std.specs.Prelude.{ℕ, ◌≤◌, ◌<◌, ◌≡◌, ◌+◌, ◌-◌, suc, zero, List, [], ◌∷◌, ◌++◌, Option, Some, None, length}
 use Rattle.std.specs.Prelude.{sum_by, true, false}
 use Rattle.std.specs.List.{list_all, list_any}
-use Rattle.cweb_names.specs.declared.name.NameId.{NameId}
-use Rattle.cweb_names.specs.declared.name.NameRef.{NameRef}
+use Rattle.cweb_store.specs.declared.name.NameId.{NameId}
+use Rattle.cweb_store.specs.declared.name.NameRef.{NameRef}
 use Rattle.cweb_store.specs.Parts.{Token, Name}
 use Rattle.cweb_store.specs.Calls.{Stored}
 use Rattle.cweb_out.specs.Expansion.{names, ends_below, joined, use_of, resolved_use, expanded_name, put}
 use Rattle.cweb_out.specs.surface.FrameStacks.{suffix, IsReady, rank, left, FrameIsWithin}
 use Rattle.cweb_out.specs.declared.expander.Expander.{Expander}
 use Rattle.cweb_out.specs.declared.frame.Frame.{Frame}
-use Rattle.cweb_print.specs.inner.BufferedPrinting.{PrintsPrefix}
-use Rattle.cweb_print.specs.surface.Printed.{setting_of}
-use Rattle.cweb_print.specs.declared.printer.Printer.{Printer}
+use Rattle.cweb_out.specs.inner.BufferedPrinting.{PrintsPrefix}
+use Rattle.cweb_out.specs.surface.Printed.{setting_of}
+use Rattle.cweb_out.specs.declared.printer.Printer.{Printer}
 use Rattle.cweb_store.specs.inner.Records.{is_name_use}
 
 -- The rank of the top frame's owner, or a bound if there is no frame.

@@ -2,7 +2,7 @@
 use Rattle.std.specs.Prelude.{◌≡◌, ℕ, Bool, true, false, not, ◌&&◌, List, map, find, Option, Some, None, Result, Ok}
 use Rattle.std.specs.Prelude.{Err, option_map, string_bytes, ◌<◌}
 use Rattle.std.specs.List.{list_all, after_last}
-use Rattle.cweb_names.specs.declared.name.NameId.{NameId}
+use Rattle.cweb_store.specs.declared.name.NameId.{NameId}
 use Rattle.cweb_store.specs.Calls.{Stored}
 use Rattle.cweb_out.specs.Expansion.{cycle_from, list_ends, names}
 use Rattle.cweb_out.specs.Outputs.{is_control, is_good_name, is_slash, names_no_file, output_name, output_of}

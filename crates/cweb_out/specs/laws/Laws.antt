@@ -2,16 +2,16 @@
 use Rattle.std.specs.Prelude.{◌≡◌, ◌≤◌, ◌<◌, ◌↔◌, ◌==◌, ℕ, suc, Bool, true, false, List, [], ◌∷◌, ◌++◌, Some, Err, fold}
 use Rattle.std.specs.Prelude.{codes, if◌then◌else◌}
 use Rattle.std.specs.List.{list_all, list_any}
-use Rattle.cweb_names.specs.declared.name.NameId.{NameId}
-use Rattle.cweb_names.specs.declared.name.NameRef.{NameRef}
-use Rattle.cweb_names.specs.Names.{is_id}
+use Rattle.cweb_store.specs.declared.name.NameId.{NameId}
+use Rattle.cweb_store.specs.declared.name.NameRef.{NameRef}
+use Rattle.cweb_store.specs.Names.{is_id}
 use Rattle.cweb_store.specs.Parts.{Token, Name, Join, Head, Tail}
 use Rattle.cweb_store.specs.Calls.{Stored}
 use Rattle.cweb_out.specs.Expansion.{names, joined, resolved_use, uses, ends_below, has_rank, expand}
 use Rattle.cweb_out.specs.Outputs.{cycle, planned}
-use Rattle.cweb_texts.specs.Edges.{last_is}
-use Rattle.cweb_print.specs.Printing.{Setting, file, file_token_bytes, without_joined_layout, left_after, print}
-use Rattle.cweb_print.specs.Printing.{print_after, stays_joined, plain_bytes}
+use Rattle.cweb_rules.specs.Edges.{last_is}
+use Rattle.cweb_out.specs.Printing.{Setting, file, file_token_bytes, without_joined_layout, left_after, print}
+use Rattle.cweb_out.specs.Printing.{print_after, stays_joined, plain_bytes}
 
 -- Any token but a use of a name.
 abbrev pub is_no_use : Token → Bool

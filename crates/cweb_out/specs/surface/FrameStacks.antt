@@ -4,9 +4,9 @@ use Rattle.std.specs.Prelude.{Option, Some, None, vec_capacity, suc, zero, false
 use Rattle.cweb_store.specs.declared.parts.Part.{Part}
 use Rattle.cweb_store.specs.Parts.{Token, all_tokens, Defs}
 use Rattle.cweb_store.specs.Calls.{Stored}
-use Rattle.cweb_print.specs.surface.Printed.{tokens_of_part, tokens_of_parts}
+use Rattle.cweb_out.specs.surface.Printed.{tokens_of_part, tokens_of_parts}
 use Rattle.cweb_out.specs.declared.frame.Frame.{Frame}
-use Rattle.cweb_names.specs.declared.name.NameId.{NameId}
+use Rattle.cweb_store.specs.declared.name.NameId.{NameId}
 use Rattle.cweb_out.specs.Expansion.{names, list_ends, expand, ends_below}
 use Rattle.cweb_out.specs.Outputs.{root_list}
 use Rattle.cweb_out.specs.declared.expander.Expander.{Expander}

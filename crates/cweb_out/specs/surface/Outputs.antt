@@ -1,6 +1,6 @@
 -- Plans by output number.
 use Rattle.std.specs.Prelude.{ℕ, ◌≡◌, List, [], Option, None, Ok, slice_index_or, Result, Err}
-use Rattle.cweb_names.specs.declared.name.NameId.{NameId}
+use Rattle.cweb_store.specs.declared.name.NameId.{NameId}
 use Rattle.cweb_store.specs.Calls.{Stored}
 use Rattle.cweb_out.specs.Outputs.{outputs, Output, Planned, planned, Refusal, bad_name, same_name, cycle}
 use Rattle.cweb_out.specs.declared.outputs.fault.PlanFault.{PlanFault}

@@ -1,11 +1,12 @@
 // Fast path of an expander: prints runs of direct tokens.
 ghost use Rattle.std.specs.Prelude.{◌≡◌};
 ghost use Rattle.cweb_out.specs.surface.FrameStacks.{IsReady, left};
-ghost use Rattle.cweb_print.specs.inner.BufferedPrinting.{PrintsPrefix};
-ghost use Rattle.cweb_print.specs.surface.Printed.{setting_of};
+ghost use Rattle.cweb_out.specs.inner.BufferedPrinting.{PrintsPrefix};
+ghost use Rattle.cweb_out.specs.surface.Printed.{setting_of};
 
+use crate::buffer::OutBuffer;
 use crate::expander::Expander;
-use cweb_print::{OutBuffer, Printer};
+use crate::printer::Printer;
 
 impl<'a> Expander<'a> {
     /// Prints the next tokens into the buffer, up to one that isn't direct or doesn't fit. No allocation.

@@ -4,8 +4,9 @@ ghost use Rattle.cweb_store.specs.Parts.{Name};
 ghost use Rattle.cweb_out.specs.surface.FrameStacks.{FrameIsWithin, suffix};
 ghost use Rattle.cweb_out.specs.inner.FrameStacks.{KeepsFrame, PrintsFrame};
 
+use crate::buffer::OutBuffer;
 use crate::frame::Frame;
-use cweb_print::{OutBuffer, Printer};
+use crate::printer::Printer;
 use cweb_store::{NameRef, Store, Token};
 
 impl<'a> Frame<'a> {

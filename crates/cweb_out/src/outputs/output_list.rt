@@ -1,6 +1,6 @@
 // The list of outputs.
 ghost use Rattle.std.specs.Prelude.{◌≡◌, ◌<◌, ◌^◌, length, All, IfOk};
-ghost use Rattle.cweb_names.specs.Names as spec;
+ghost use Rattle.cweb_store.specs.Names as spec;
 ghost use Rattle.cweb_store.specs.Faults.{has_part};
 ghost use Rattle.cweb_out.specs.inner.Planning.{IsRoot};
 ghost use Rattle.cweb_out.specs.Outputs.{outputs};

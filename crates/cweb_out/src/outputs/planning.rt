@@ -2,11 +2,10 @@
 ghost use Rattle.std.specs.Prelude.{◌≡◌, ◌<◌, All, find, length, bytes_eq, OnOk, ◌++◌, ◌∷◌, []};
 ghost use Rattle.std.specs.List.{list_any};
 ghost use Rattle.std.specs.Result.{result_map_both};
-ghost use Rattle.cweb_names.specs.Names as spec;
+ghost use Rattle.cweb_store.specs.Names as spec;
 ghost use Rattle.cweb_store.specs.Parts as parts;
 ghost use Rattle.cweb_out.specs.inner.Planning.{IsRoot, NamesAll, NamesOne};
-ghost use Rattle.cweb_out.specs.Outputs.{has_no_program, name_spelling, output_name};
-ghost use Rattle.cweb_out.specs.Outputs.{outputs, planned};
+ghost use Rattle.cweb_out.specs.Outputs.{has_no_program, name_spelling, output_name, outputs, planned};
 ghost use Rattle.cweb_out.specs.surface.Outputs.{IsExpectedPlan};
 
 use crate::outputs::fault::PlanFault;

@@ -1,11 +1,11 @@
 // Reports on a store as one string: the name and the bytes of each output, or why there is no plan.
 ghost use Rattle.std.specs.Prelude.{◌≡◌, ◌<◌, vec_capacity, true};
-ghost use Rattle.cweb_input.specs.surface.OpenedFileNames.{opened_file_names};
+ghost use Rattle.cweb_lines.specs.surface.OpenedFileNames.{opened_file_names};
 ghost use Rattle.cweb_store.specs.surface.Tokens.{token_model};
 ghost use Rattle.cweb_out.specs.surface.FrameStacks.{IsFrameStack};
 ghost use Rattle.cweb_out.specs.surface.Outputs.{IsPlanOf};
-ghost use Rattle.cweb_print.specs.surface.Printed.{MarkFileIsNamed};
-ghost use Rattle.cweb_print.specs.Printing.{Setting};
+ghost use Rattle.cweb_out.specs.surface.Printed.{MarkFileIsNamed};
+ghost use Rattle.cweb_out.specs.Printing.{Setting};
 
 use super::wanted::holds;
 use cweb_files::{Sink, SinkFault};

@@ -4,7 +4,7 @@ use Rattle.std.specs.Prelude.{◌*◌, ◌-◌}
 use Rattle.std.specs.List.{prefix_len, list_any, fold}
 use Rattle.cweb_rules.specs.Bytes.{is_blank, is_digit, is_line_end, is_word_byte, begins, starts_section, listed}
 use Rattle.cweb_rules.specs.Bytes.{longest, number_len, starts_number, is_gap, is_octal, is_replacing, is_delimiter}
-use Rattle.cweb_texts.specs.Edges.{is_one_of, first_is}
+use Rattle.cweb_rules.specs.Edges.{is_one_of, first_is}
 use Rattle.cweb_rules.specs.Matches.{comment_match, line_comment_match, section_match, code_match, raw_match}
 use Rattle.cweb_rules.specs.Matches.{literal_match, include_match, starts_raw, starts_literal, starts_include, Blanks}
 use Rattle.cweb_rules.specs.Matches.{LineEnd, Identifier, Numeral, Punctuator, RuleMatch, rule_match}

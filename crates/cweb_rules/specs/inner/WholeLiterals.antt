@@ -2,7 +2,7 @@
 use Rattle.std.specs.Prelude.{ℕ, ◌≡◌, ◌≤◌, ◌<◌, Bool, ◌==◌, List, codes, length}
 use Rattle.cweb_rules.specs.declared.quote.Quote.{Quote}
 use Rattle.cweb_rules.specs.declared.quote.Quote.TheVariants.{Single, Double}
-use Rattle.cweb_texts.specs.Edges.{is_one_of}
+use Rattle.cweb_rules.specs.Edges.{is_one_of}
 use Rattle.cweb_rules.specs.Items.{reach, look_in_literal}
 use Rattle.cweb_rules.specs.inner.LineItems.{reached}
 use Rattle.cweb_rules.specs.declared.end.End.TheVariants.{Closed, Open}

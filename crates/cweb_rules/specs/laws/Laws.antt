@@ -3,7 +3,7 @@ use Rattle.std.specs.Prelude.{◌≡◌, ℕ, Bool, true, false, ◌||◌, ◌&&
 use Rattle.std.specs.Prelude.{◌+◌, Some, None, take, if◌then◌else◌, ◌≢◌, ◌⊎◌, drop}
 use Rattle.std.specs.List.{list_all}
 use Rattle.cweb_rules.specs.Bytes.{is_digit, is_white, is_word_byte, listed, is_line_end}
-use Rattle.cweb_texts.specs.Edges.{is_one_of}
+use Rattle.cweb_rules.specs.Edges.{is_one_of}
 use Rattle.cweb_rules.specs.Matches.{match_in, is_closed, Kind, Code, Quoted, Identifier, Numeral, Punctuator}
 use Rattle.cweb_rules.specs.Matches.{rule_match, Skipped, Section, Letter, ControlText, Verbatim, Constant, Occurrence}
 use Rattle.cweb_rules.specs.Matches.{Blanks, LineEnd, Comment, Defined, RuleMatch}

@@ -2,7 +2,7 @@
 use Rattle.std.specs.Prelude.{◌≡◌, ◌≤◌, ◌+◌, List, [], ◌++◌, length, ◌<◌, ◌*◌, ℕ, Bool, not, ◌==◌, false, codes, Option}
 use Rattle.std.specs.Prelude.{Some, None}
 use Rattle.cweb_files.specs.Shelves.{Observed, ShelfContents, ShelfModel}
-use Rattle.cweb_input.specs.Lines.{Line}
+use Rattle.cweb_lines.specs.Lines.{Line}
 use Rattle.cweb_lines.specs.Events.{Event}
 use Rattle.cweb_lines.specs.surface.MergeProgress.{SoFar, EmitsLines}
 use Rattle.cweb_scan.specs.inner.ReaderModel.{ReaderModel, read_after, cost, Between, TakesPrefix, weight}
@@ -10,11 +10,11 @@ use Rattle.cweb_scan.specs.surface.Scan.{web_size, AreLinesBelow}
 use Rattle.cweb_scan.specs.Lexemes.{Scanned, read_lines}
 use Rattle.cweb_scan.specs.inner.ScanParts.{scanned_of, last_kind}
 use Rattle.cweb_lines.specs.inner.Ahead.{IsAhead}
-use Rattle.cweb_input.specs.surface.OpenedFileNames.{opened_file_names}
+use Rattle.cweb_lines.specs.surface.OpenedFileNames.{opened_file_names}
 use Rattle.cweb_lines.specs.inner.Passing.{ComesNext, lines_next, with_newlines, top_of}
 use Rattle.cweb_lines.specs.declared.merger.ahead.Ahead.{Ahead}
 use Rattle.cweb_lines.specs.declared.merge_state.MergeState.{MergeState}
-use Rattle.cweb_names.specs.surface.Names.{too_many}
+use Rattle.cweb_store.specs.surface.Names.{too_many}
 use Rattle.cweb_store.specs.Parts.{Token, is_layout}
 use Rattle.cweb_rules.specs.declared.context.Context.TheVariants.{CText}
 use Rattle.cweb_scan.specs.State.{in_directive, ScanState}

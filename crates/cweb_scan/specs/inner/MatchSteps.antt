@@ -2,7 +2,7 @@
 use Rattle.std.specs.Prelude.{◌≡◌, ℕ, Bool, true, false, ◌||◌, not, List, [], ◌∷◌, ◌++◌, take, codes, ◌&&◌, drop}
 use Rattle.cweb_files.specs.declared.place.Place.{Place}
 use Rattle.cweb_rules.specs.Bytes.{begins, is_blank, is_line_end, starts_section, at_line_end}
-use Rattle.cweb_texts.specs.Edges.{first_is}
+use Rattle.cweb_rules.specs.Edges.{first_is}
 use Rattle.cweb_rules.specs.Codes.{in_limbo, in_tex, in_macro, in_c}
 use Rattle.cweb_rules.specs.Matches.{RuleMatch}
 use Rattle.cweb_rules.specs.declared.context.Context.{Context}

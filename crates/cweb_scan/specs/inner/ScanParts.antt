@@ -4,8 +4,8 @@ use Rattle.std.specs.Prelude.{false, ◌&&◌, not, bytes_eq, ◌≡◌}
 use Rattle.std.specs.List.{list_all}
 use Rattle.std.specs.Option.{option_map_or}
 use Rattle.cweb_files.specs.declared.place.Place.{Place}
-use Rattle.cweb_names.specs.Names.{Occurrence, is_abbreviation}
-use Rattle.cweb_names.specs.declared.name.How.TheVariants.{Full, Prefix}
+use Rattle.cweb_store.specs.Names.{Occurrence, is_abbreviation}
+use Rattle.cweb_store.specs.declared.name.How.TheVariants.{Full, Prefix}
 use Rattle.cweb_store.specs.Parts.{Token, Part, Punct, Newline, is_blank, Word, Blank, Mark, is_macro, is_layout}
 use Rattle.cweb_store.specs.Parts.{without_last}
 use Rattle.cweb_rules.specs.declared.context.Context.{Context}

@@ -7,11 +7,11 @@ use Rattle.cweb_rules.specs.Matches.{Lexeme, RuleMatch, match_in, Kind, Section,
 use Rattle.cweb_scan.specs.State.{ScanState, names_include, start_state, name_occurrence}
 use Rattle.cweb_scan.specs.Effects.{Reading, after_lexeme}
 use Rattle.cweb_scan.specs.Lexemes.{Scanned, lexemes_in, scanned, lex, HasReadTokens}
-use Rattle.cweb_input.specs.Lines.{Line}
+use Rattle.cweb_lines.specs.Lines.{Line}
 use Rattle.std.specs.List.{flat_map, fold, slice_get}
 use Rattle.cweb_rules.specs.laws.Laws.{at_line_ends, after_word, after_number, joins_last}
 use Rattle.cweb_rules.specs.Items.{unescaped}
-use Rattle.cweb_names.specs.Names as names
+use Rattle.cweb_store.specs.Names as names
 
 -- The next lexeme, by the context after the lexemes before it.
 abbrev pub next_match : ScanState → List ℕ → RuleMatch

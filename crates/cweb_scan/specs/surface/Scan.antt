@@ -1,14 +1,14 @@
 -- The result of a scan, its bounds, and how a scan ends early.
 use Rattle.std.specs.Prelude.{◌≤◌, ℕ, ◌+◌, List, [], ◌∷◌, length, ◌≡◌, ◌<◌, All, Option, Some}
-use Rattle.cweb_input.specs.Lines.{Line}
+use Rattle.cweb_lines.specs.Lines.{Line}
 use Rattle.cweb_store.specs.Parts.{all_tokens, Token, Mark}
 use Rattle.cweb_store.specs.Calls.{Stored}
 use Rattle.cweb_store.specs.surface.Tokens.{uninterned_store_bytes}
 use Rattle.cweb_lines.specs.Events.{Event, emitted_lines}
 use Rattle.cweb_lines.specs.surface.MergeProgress.{SoFar, EmitsLines, StopsAfterLines, ReportsPrefix}
-use Rattle.cweb_input.specs.surface.OpenSources.{StopsFor, StopsReading}
-use Rattle.cweb_input.specs.declared.limits.TheConstants.{LINES, BYTES}
-use Rattle.cweb_input.specs.declared.stop.Stop.{Stop}
+use Rattle.cweb_lines.specs.surface.OpenSources.{StopsFor, StopsReading}
+use Rattle.cweb_lines.specs.declared.limits.TheConstants.{LINES, BYTES}
+use Rattle.cweb_lines.specs.declared.stop.Stop.{Stop}
 use Rattle.cweb_scan.specs.Lexemes.{Scanned, scanned}
 use Rattle.cweb_scan.specs.declared.scanner.scanned.Scanned as code
 

@@ -1,6 +1,6 @@
 // Takes the bytes of a line, step by step.
 ghost use Rattle.std.specs.Prelude.{◌≡◌, ◌≤◌, ◌<◌, ◌+◌, ◌*◌, IfOk, OnOk, length, true};
-ghost use Rattle.cweb_names.specs.surface.Names.{too_many};
+ghost use Rattle.cweb_store.specs.surface.Names.{too_many};
 
 use crate::reader::Reader;
 use crate::rest::Rest;

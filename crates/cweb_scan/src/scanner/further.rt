@@ -17,7 +17,7 @@ use cweb_store::Token;
 use std::alloc::AllocError;
 
 impl Scanner {
-    ghost use Rattle.cweb_texts.specs.Edges.{first_is};
+    ghost use Rattle.cweb_rules.specs.Edges.{first_is};
     ghost use Rattle.cweb_rules.specs.inner.Rules as spec;
     ghost use Rattle.cweb_rules.specs.declared.rule.Rule.TheVariants as rule;
 

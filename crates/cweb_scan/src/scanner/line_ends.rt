@@ -10,7 +10,7 @@ use cweb_store::Token;
 use std::alloc::AllocError;
 
 impl Scanner {
-    ghost use Rattle.cweb_names.specs.surface.Names.{too_many};
+    ghost use Rattle.cweb_store.specs.surface.Names.{too_many};
     ghost use Rattle.cweb_store.specs.surface.Tokens.{token_count};
     ghost use Rattle.cweb_scan.specs.Effects.{line_end, comment_line_end, line_end_token};
     ghost use Rattle.cweb_scan.specs.State.{is_c};

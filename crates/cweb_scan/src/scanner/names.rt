@@ -3,9 +3,8 @@ ghost use Rattle.std.specs.Prelude.{◌≡◌, IfOk, OnOk, if◌then◌else◌, 
 
 use crate::scanner::Scanner;
 use cweb_files::Place;
-use cweb_names::{is_prefix, is_squeezed, squeezed};
 use cweb_rules::{Context, End};
-use cweb_store::{How, NameRef};
+use cweb_store::{How, NameRef, is_prefix, is_squeezed, squeezed};
 use std::alloc::AllocError;
 
 impl Scanner {

@@ -1,6 +1,6 @@
 // Fast path for C text outside items and directives: lexemes whose rule is determined by their first byte.
 ghost use Rattle.std.specs.Prelude.{◌≡◌, ◌≤◌, ◌<◌, ◌+◌, ◌*◌, IfOk, IfSome, OnOk, OnErr, length};
-ghost use Rattle.cweb_names.specs.surface.Names.{too_many};
+ghost use Rattle.cweb_store.specs.surface.Names.{too_many};
 ghost use Rattle.cweb_store.specs.surface.Tokens.{token_model};
 ghost use Rattle.cweb_scan.specs.inner.FastPaths.{taken_size, HasPlainRoom, IsPlainC, IsPlainToken};
 ghost use Rattle.cweb_scan.specs.inner.FastPaths.{PassesPlain, TakesPlain};

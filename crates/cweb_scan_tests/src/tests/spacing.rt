@@ -1,9 +1,9 @@
-// The law of blanks: tokens are printed by `cweb_print` and read again by `cweb_scan`.
+// The law of blanks: tokens are printed by `cweb_out` and read again by `cweb_scan`.
 ghost use Rattle.std.specs.Prelude.{◌≡◌, true};
-ghost use Rattle.cweb_input.specs.surface.OpenedFileNames.{opened_file_names};
+ghost use Rattle.cweb_lines.specs.surface.OpenedFileNames.{opened_file_names};
 ghost use Rattle.cweb_store.specs.surface.Tokens.{token_model};
-ghost use Rattle.cweb_print.specs.surface.Printed.{MarkFileIsNamed};
-ghost use Rattle.cweb_print.specs.Printing.{Setting};
+ghost use Rattle.cweb_out.specs.surface.Printed.{MarkFileIsNamed};
+ghost use Rattle.cweb_out.specs.Printing.{Setting};
 
 use super::wanted::holds;
 use cweb_files::{MemoryShelf, MemorySink, Sink};

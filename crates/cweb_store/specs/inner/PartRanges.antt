@@ -5,7 +5,7 @@ use Rattle.cweb_store.specs.declared.parts.PartRange.{PartRange}
 use Rattle.cweb_store.specs.declared.parts.Open.{Open}
 use Rattle.cweb_store.specs.Parts.{Token, Part, without_layout, at_close, is_layout, is_newline}
 use Rattle.cweb_store.specs.Calls.{PartsSoFar, part_with_token}
-use Rattle.cweb_names.specs.surface.Names.{too_many}
+use Rattle.cweb_store.specs.surface.Names.{too_many}
 use Rattle.cweb_store.specs.declared.parts.PartKind.{PartKind}
 use Rattle.cweb_store.specs.declared.tokens.layout.Trailing.{Trailing}
 use Rattle.cweb_store.specs.surface.Tokens.{token_strings}

@@ -6,18 +6,18 @@ use Rattle.cweb_store.specs.declared.call.Answered.{Answered}
 use Rattle.cweb_store.specs.surface.Tokens.{part_count, token_count, replacement_of, token_model, all_parts}
 use Rattle.cweb_store.specs.Calls.{Contents, Replacement, empty, with_occurrence, with_open, with_token, with_dropped}
 use Rattle.cweb_store.specs.Calls.{with_closed, with_replacement}
-use Rattle.cweb_names.specs.surface.Names.{occurrence_of, too_many}
+use Rattle.cweb_store.specs.surface.Names.{occurrence_of, too_many}
 use Rattle.cweb_store.specs.declared.parts.PartKind.{PartKind}
-use Rattle.cweb_names.specs.Names.{Occurrence, names, beginning, resolutions, resolved_at, resolved_among, files, is_id}
-use Rattle.cweb_names.specs.Names.{Resolution, spellings}
+use Rattle.cweb_store.specs.Names.{Occurrence, names, beginning, resolutions, resolved_at, resolved_among, files, is_id}
+use Rattle.cweb_store.specs.Names.{Resolution, spellings}
 use Rattle.cweb_store.specs.Parts.{Token, Part, joined_where, at_close, is_layout, protected_count, without_layout}
 use Rattle.cweb_store.specs.Parts.{all_tokens}
 use Rattle.std.specs.List.{starts_with, list_any, list_all}
-use Rattle.cweb_names.specs.declared.name.How.TheVariants.{Full, Prefix}
-use Rattle.cweb_names.specs.declared.name.NameId.{NameId}
-use Rattle.cweb_names.specs.declared.name.NameFault.{NameFault}
+use Rattle.cweb_store.specs.declared.name.How.TheVariants.{Full, Prefix}
+use Rattle.cweb_store.specs.declared.name.NameId.{NameId}
+use Rattle.cweb_store.specs.declared.name.NameFault.{NameFault}
 use Rattle.cweb_store.specs.Faults.{unresolved_fault, unresolved_faults}
-use Rattle.cweb_names.specs.laws.Names.{Distinct}
+use Rattle.cweb_store.specs.laws.Names.{Distinct}
 use Rattle.cweb_store.specs.declared.parts.PartKind.TheVariants.{Macro}
 use Rattle.cweb_store.specs.declared.call.Call as declared
 use Rattle.cweb_store.specs.declared.call.Call.TheVariants as made

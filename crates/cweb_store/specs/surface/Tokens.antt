@@ -2,9 +2,9 @@
 use Rattle.cweb_store.specs.declared.tokens.Token.{Token as BorrowedToken}
 use Rattle.std.specs.Prelude.{◌≡◌, ℕ, ◌+◌, List, [], ◌∷◌, ◌++◌, fold, length, map, flat_map, option_to_list, Bool}
 use Rattle.std.specs.Prelude.{slice_range, if◌then◌else◌, ◌≤◌, All}
-use Rattle.cweb_texts.specs.surface.StringTables.{total, with_word}
+use Rattle.cweb_store.specs.surface.StringTables.{total, with_word}
 use Rattle.cweb_store.specs.Parts.{Token, Word, Number, Literal, Verbatim, Punct, all_tokens, joined_where, Part}
-use Rattle.cweb_names.specs.surface.Names.{occurrence_text}
+use Rattle.cweb_store.specs.surface.Names.{occurrence_text}
 use Rattle.cweb_store.specs.Calls.{Replacement, Stored, PartsSoFar}
 use Rattle.cweb_store.specs.declared.parts.PartKind.{PartKind}
 use Rattle.cweb_store.specs.Parts as spec

@@ -1,14 +1,14 @@
 // Finished parts.
 ghost use Rattle.std.specs.Prelude.{◌≡◌, ◌<◌, length, IfOk};
-ghost use Rattle.cweb_names.specs.surface.Names.{too_many};
+ghost use Rattle.cweb_store.specs.surface.Names.{too_many};
 ghost use Rattle.cweb_store.specs.Parts.{all_tokens, has_defs_code};
 ghost use Rattle.cweb_store.specs.inner.PartRanges.{ranges_from};
 ghost use Rattle.cweb_store.specs.Faults.{is_used};
 ghost use Rattle.cweb_store.specs.inner.Stored.{AreWithin, flag_of};
 
+use crate::name::{NameId, NameKind};
 use crate::parts::PartRange;
 use crate::tokens::list::TokenList;
-use cweb_names::{NameId, NameKind};
 use std::alloc::{AllocError, Global};
 use std::marker::Model;
 

@@ -2,8 +2,8 @@
 ghost use Rattle.std.specs.Prelude.{◌≡◌};
 ghost use Rattle.cweb_store.specs.inner.Stored.{followed};
 
+use crate::name::NameId;
 use crate::parts::{Part, PartRange};
-use cweb_names::NameId;
 use std::marker::Model;
 
 /// Which parts are wanted.

@@ -1,11 +1,12 @@
 // Links from each part to the next part of its group.
 ghost use Rattle.std.specs.Prelude.{◌≡◌, ◌<◌, [], length, IfOk};
-ghost use Rattle.cweb_names.specs.surface.Names.{too_many};
+ghost use Rattle.cweb_store.specs.surface.Names.{too_many};
 ghost use Rattle.cweb_store.specs.inner.Stored.{AreLinked, IsPut, head_of, AreWithin};
 
+use crate::name::{NameId, NameKind};
 use crate::parts::iter::Wanted;
 use crate::parts::{PartKind, PartRange};
-use cweb_names::{NameId, NameKind, resolved_at};
+use crate::resolution::resolved_at;
 use std::alloc::{AllocError, Global};
 use std::mem::replace;
 

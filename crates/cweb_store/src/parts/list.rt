@@ -4,7 +4,7 @@ ghost use Rattle.cweb_store.specs.inner.PartRanges.{with_closed_part, with_dropp
 ghost use Rattle.cweb_store.specs.inner.PartRanges.{no_parts, with_opened_part, with_pushed_token};
 ghost use Rattle.cweb_store.specs.inner.PartRanges.{last_range};
 ghost use Rattle.cweb_store.specs.surface.Tokens.{all_parts, part_count, token_count};
-ghost use Rattle.cweb_names.specs.surface.Names.{too_many};
+ghost use Rattle.cweb_store.specs.surface.Names.{too_many};
 
 use crate::parts::closed::ClosedParts;
 use crate::parts::{Open, Part, PartKind, PartRange};

@@ -3,9 +3,11 @@ ghost use Rattle.std.specs.Prelude.{IfOk};
 ghost use Rattle.cweb_store.specs.inner.Stored.{AreAnswers};
 
 use crate::faults::name_faults;
+use crate::name::{NameFault, NameId};
 use crate::parts::closed::ClosedParts;
 use crate::parts::links::Links;
-use cweb_names::{NameFault, NameId, NameTable, Resolutions};
+use crate::resolution::Resolutions;
+use crate::table::NameTable;
 use indexmap::IndexSet;
 use std::alloc::{AllocError, Global};
 

@@ -1,15 +1,15 @@
 // The parts of a store: of the program, of a name, and of the macros.
 ghost use Rattle.std.specs.Prelude.{◌<◌, ◌↔◌, length, IsTrue};
-ghost use Rattle.cweb_names.specs.Names as spec;
+ghost use Rattle.cweb_store.specs.Names as spec;
 ghost use Rattle.cweb_store.specs.Parts.{is_macro, is_of, is_unnamed};
 ghost use Rattle.cweb_store.specs.surface.Tokens.{AreRangesOf};
 ghost use Rattle.cweb_store.specs.Faults.{has_part};
-ghost use Rattle.cweb_names.specs.surface.Names.{too_many};
+ghost use Rattle.cweb_store.specs.surface.Names.{too_many};
 ghost use Rattle.cweb_store.specs.inner.Stored.{is_wanted};
 
+use crate::name::NameId;
 use crate::parts::iter::{Parts, Wanted};
 use crate::store::Store;
-use cweb_names::NameId;
 
 impl Store {
     /// The unnamed parts, which are the program.

@@ -1,7 +1,7 @@
 // A store's tokens: their number and their bytes.
 ghost use Rattle.std.specs.Prelude.{◌≡◌, ◌<◌, length, map};
 ghost use Rattle.cweb_store.specs.inner.DirectBytes.{direct_bytes};
-ghost use Rattle.cweb_names.specs.surface.Names.{too_many};
+ghost use Rattle.cweb_store.specs.surface.Names.{too_many};
 ghost use Rattle.cweb_store.specs.Parts.{all_tokens};
 
 use crate::store::Store;

@@ -1,14 +1,14 @@
 // A list of tokens.
 ghost use Rattle.std.specs.Prelude.{◌≡◌, ◌<◌, ◌+◌, ◌++◌, ◌∷◌, [], filter, length, take, Some};
 ghost use Rattle.std.specs.Prelude.{slice_get, OnOk, OnErr};
-ghost use Rattle.cweb_names.specs.surface.Names.{too_many};
+ghost use Rattle.cweb_store.specs.surface.Names.{too_many};
 ghost use Rattle.cweb_store.specs.inner.PartRanges.{has_string};
 
+use crate::string_table::StringTable;
 use crate::tokens::Token;
 use crate::tokens::records::{Record, first_place, record_of, token_at};
 use crate::tokens::token_index::TokenIndex;
 use cweb_files::Place;
-use cweb_texts::StringTable;
 use std::alloc::{AllocError, Global};
 use std::marker::Model;
 

@@ -8,12 +8,13 @@ ghost use Rattle.cweb_store.specs.surface.Tokens.{token_model, AreInOneList, int
 ghost use Rattle.cweb_store.specs.surface.Tokens.{token_strings};
 ghost use Rattle.cweb_store.specs.inner.Records.{IsNextNumber, is_name_use};
 
+use crate::name::{NameId, NameKind};
 use crate::parts::Part;
+use crate::resolution::resolved_at;
 use crate::tokens::Token;
 use crate::tokens::list::TokenList;
 use crate::tokens::token_index::next_in_range;
 use crate::tokens::token_reader::TokenReader;
-use cweb_names::{NameId, NameKind, resolved_at};
 
 impl TokenList {
     ghost use Rattle.std.specs.Prelude.{map};

@@ -1,17 +1,18 @@
 // Tokens as records of five bytes. A record holds an index of its string, or of its place if it is a Mark.
 ghost use Rattle.std.specs.Prelude.{◌≡◌, ◌<◌, ◌+◌, ℕ, length, Some, slice_get, IfOk, OnOk, OnErr};
-ghost use Rattle.cweb_names.specs.surface.Names.{too_many};
+ghost use Rattle.cweb_store.specs.surface.Names.{too_many};
 ghost use Rattle.cweb_store.specs.inner.Records.{AreRecords, AddsPlace, InternsToken};
 ghost use Rattle.cweb_store.specs.inner.Records.{StringIsWithin, PlaceIsWithin, token_of_record};
 ghost use Rattle.cweb_store.specs.inner.Records.{tokens_of, AddsNumber, HasSameEntries};
 ghost use Rattle.cweb_store.specs.surface.Tokens.{token_model};
 
+use crate::name::NameRef;
+use crate::string_table::StringTable;
+use crate::strings::StringList;
 use crate::tokens::Token;
 use crate::tokens::token_index::TokenIndex;
 use crate::tokens::unaligned::Unaligned;
 use cweb_files::Place;
-use cweb_names::NameRef;
-use cweb_texts::{StringList, StringTable};
 use std::alloc::AllocError;
 
 /// A token whose string or place is stored elsewhere.

@@ -3,10 +3,11 @@ ghost use Rattle.std.specs.Prelude.{◌≡◌, ◌<◌, List, ℕ, [], length, o
 ghost use Rattle.cweb_store.specs.inner.DirectBytes.{direct_bytes};
 ghost use Rattle.cweb_store.specs.Parts as spec;
 ghost use Rattle.cweb_store.specs.inner.Records.{StringIsWithin, token_of_record};
-ghost use Rattle.cweb_texts.specs.inner.StringLists.{token_bytes_model, string_at};
+ghost use Rattle.cweb_store.specs.inner.StringLists.{token_bytes_model, string_at};
 
+use crate::edges::{Edge, TokenBytes, has_high_byte, punctuator_edge};
+use crate::slices::StringSlices;
 use crate::tokens::records::Record;
-use cweb_texts::{Edge, StringSlices, TokenBytes, has_high_byte, punctuator_edge};
 use std::marker::Model;
 
 /// A reader of tokens' bytes. A loop that holds it doesn't reload the pointers of the store's lists.
@@ -18,7 +19,7 @@ pub struct TokenReader<'a> {
 
 impl<'a> Model for TokenReader<'a> {
     ghost use Rattle.std.specs.Prelude.{List, [], Option, ℕ, length, map};
-    ghost use Rattle.cweb_texts.specs.inner.StringLists.{TokenBytesModel};
+    ghost use Rattle.cweb_store.specs.inner.StringLists.{TokenBytesModel};
     ghost use Rattle.cweb_store.specs.inner.DirectBytes.{direct_bytes};
     ghost use Rattle.cweb_store.specs.inner.Records.{AreRecords, tokens_of};
 

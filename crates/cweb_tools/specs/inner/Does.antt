@@ -1,14 +1,14 @@
 -- The effect of calls as acts, and the course of `wmerge`.
 use Rattle.std.specs.Prelude.{ℕ, List, [], Option, Some, None, Result, Ok, Err, ◌+◌, ◌<◌, ◌^◌, ◌≡◌, ◌∷◌, IsSome}
-use Rattle.cweb_input.specs.declared.stop.Stop.TheVariants.{LogFault}
-use Rattle.cweb_log.specs.DeviceModels.{Devices, FailedReads, contents_of, failed_reads}
+use Rattle.cweb_lines.specs.declared.stop.Stop.TheVariants.{LogFault}
+use Rattle.cweb_tools.specs.DeviceModels.{Devices, FailedReads, contents_of, failed_reads}
 use Rattle.cweb_files.specs.Sinks.{SinkModel}
 use Rattle.cweb_tools.specs.Acts.{Act, Ending, ending, PerformsActs, RunEnds, FollowsActs}
-use Rattle.cweb_input.specs.declared.stop.Stop.{Stop}
-use Rattle.cweb_input.specs.Include.{names_found, contents_found, World, Found, web_at, change_at}
+use Rattle.cweb_lines.specs.declared.stop.Stop.{Stop}
+use Rattle.cweb_lines.specs.Include.{names_found, contents_found, World, Found, web_at, change_at}
 use Rattle.cweb_lines.specs.Merge.{started}
 use Rattle.cweb_lines.specs.surface.EnoughSteps.{merge}
-use Rattle.cweb_log.specs.CommandLine.{WebNames}
+use Rattle.cweb_tools.specs.CommandLine.{WebNames}
 use Rattle.cweb_tools.specs.Course.{Course, unread, not_there, change_not_there, merging, change_name}
 use Rattle.cweb_tools.specs.MergeActs.{MergeCanCome, merge_acts, merge_devices}
 use Rattle.cweb_files.specs.Shelves.{Observed, ShelfModel}

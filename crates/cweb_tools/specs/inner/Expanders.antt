@@ -1,8 +1,8 @@
 -- The state of an expander between outputs, and the files of its plan.
 use Rattle.std.specs.Prelude.{◌≡◌, ℕ, List, All, length, map, vec_capacity, Option, Some, None, Result, Ok, Err}
 use Rattle.cweb_files.specs.Files.{File}
-use Rattle.cweb_input.specs.surface.OpenedFileNames.{opened_file_names}
-use Rattle.cweb_input.specs.declared.files.FileNames.{FileNames}
+use Rattle.cweb_lines.specs.surface.OpenedFileNames.{opened_file_names}
+use Rattle.cweb_lines.specs.declared.files.FileNames.{FileNames}
 use Rattle.cweb_store.specs.Parts.{Token, all_tokens}
 use Rattle.cweb_scan.specs.surface.Scan.{IsMarkBelow}
 use Rattle.cweb_out.specs.surface.FrameStacks.{IsFrameStack, left}

@@ -1,24 +1,24 @@
 -- A scanned web, how it is opened, and the acts and status of a run after its words are parsed.
 use Rattle.std.specs.Prelude.{Ok, count_by, ◌≡◌, ℕ, ◌==◌, List, [], ◌∷◌, Option, None, Some, if◌then◌else◌, length, map}
-use Rattle.cweb_input.specs.Include.{World}
-use Rattle.cweb_input.specs.declared.stop.Stop.TheVariants.{WebNotOpened, ChangeNotOpened}
+use Rattle.cweb_lines.specs.Include.{World}
+use Rattle.cweb_lines.specs.declared.stop.Stop.TheVariants.{WebNotOpened, ChangeNotOpened}
 use Rattle.cweb_out.specs.Expansion.{names}
 use Rattle.cweb_out.specs.Outputs.{Planned, Refusal, bad_name, same_name, cycle}
 use Rattle.cweb_store.specs.Calls.{Stored}
-use Rattle.cweb_log.specs.Items.{LogItem, is_fault, stopped}
-use Rattle.cweb_log.specs.CommandLine.{OptionsModel}
-use Rattle.cweb_log.specs.DeviceModels.{FailedReads, Devices}
+use Rattle.cweb_tools.specs.Items.{LogItem, is_fault, stopped}
+use Rattle.cweb_tools.specs.CommandLine.{OptionsModel}
+use Rattle.cweb_tools.specs.DeviceModels.{FailedReads, Devices}
 use Rattle.cweb_files.specs.Sinks.{SinkModel}
 use Rattle.cweb_tools.specs.Acts.{Act, FollowsActs, opens, reads, says, RunEnds, acts_status}
 use Rattle.cweb_tools.specs.Script.{Planning, TangleCourse, unread, not_there, change_not_there, tangling, refused}
 use Rattle.cweb_tools.specs.Script.{planned, script}
 use Rattle.cweb_tools.specs.Tangle.{CanCome, planning_by, shown_by, tangled, web_of}
 use Rattle.cweb_tools.specs.inner.Does.{merge_course, at}
-use Rattle.cweb_input.specs.surface.OpenedFileNames.{opened_file_names}
+use Rattle.cweb_lines.specs.surface.OpenedFileNames.{opened_file_names}
 use Rattle.cweb_scan.specs.surface.Scan.{scanned_model, IsScanBelow}
 use Rattle.cweb_out.specs.declared.outputs.fault.PlanFault.{PlanFault}
 use Rattle.cweb_tools.specs.declared.web.Web.{Web}
-use Rattle.cweb_input.specs.declared.fault.SourceFault.{SourceFault}
+use Rattle.cweb_lines.specs.declared.fault.SourceFault.{SourceFault}
 use Rattle.cweb_scan.specs.Lexemes.{Scanned}
 use Rattle.cweb_out.specs.declared.outputs.fault.PlanFault.TheVariants as fault
 use Rattle.cweb_tools.specs.Script as script

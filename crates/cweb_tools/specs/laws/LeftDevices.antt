@@ -2,11 +2,11 @@
 use Rattle.std.specs.Prelude.{◌≡◌, ◌≢◌, ◌⊎◌, ℕ, List, ◌++◌, codes, Option, Some, None, Bool, map}
 use Rattle.std.specs.Option.{option_and_then}
 use Rattle.cweb_files.specs.declared.bins.BinFault.{BinFault}
-use Rattle.cweb_input.specs.Include.{World}
-use Rattle.cweb_log.specs.CommandLine.{OptionsModel, WebNames}
-use Rattle.cweb_log.specs.DeviceModels.{Devices, FailedReads}
+use Rattle.cweb_lines.specs.Include.{World}
+use Rattle.cweb_tools.specs.CommandLine.{OptionsModel, WebNames}
+use Rattle.cweb_tools.specs.DeviceModels.{Devices, FailedReads}
 use Rattle.cweb_files.specs.Sinks.{SinkContents, SinkModel, appended}
-use Rattle.cweb_log.specs.Log.{message_line}
+use Rattle.cweb_tools.specs.Log.{message_line}
 use Rattle.cweb_tools.specs.Acts.{Act, blaming, acts_status}
 use Rattle.cweb_tools.specs.Depend.{DependPromises, among_outputs, depend_acts}
 use Rattle.cweb_tools.specs.declared.rule_targets.Targets.{Targets}
@@ -17,7 +17,7 @@ use Rattle.cweb_tools.specs.Tangle.{shown_by, TanglePromises}
 use Rattle.cweb_tools.specs.laws.RunEffects.{HasReadAll, LeavesFiles, tangle_files, tangle_status}
 use Rattle.cweb_files.specs.Files.{File}
 use Rattle.cweb_lines.specs.Events.{Event}
-use Rattle.cweb_log.specs.declared.options.Shown.{Shown}
+use Rattle.cweb_tools.specs.declared.options.Shown.{Shown}
 use Rattle.cweb_tools.specs.Depfile.{depfile, each_once}
 
 -- The name of the draft of an output, if one is open.

@@ -1,19 +1,19 @@
 -- Laws of whole runs. Each follows from the definition of how a run ends.
 use Rattle.std.specs.Prelude.{fold, ◌≡◌, ℕ, List, ◌++◌, option_map, ◌≢◌, ◌≤◌, ◌⊎◌, ◌+◌, Option, IsSome}
 use Rattle.cweb_files.specs.Files.{put_file, File}
-use Rattle.cweb_input.specs.declared.stop.Stop.{Stop}
-use Rattle.cweb_input.specs.declared.stop.Stop.TheVariants.{OutNotOpened, ReadFault, WriteFault, LogFault}
-use Rattle.cweb_log.specs.DeviceModels.{Devices, Logs}
+use Rattle.cweb_lines.specs.declared.stop.Stop.{Stop}
+use Rattle.cweb_lines.specs.declared.stop.Stop.TheVariants.{OutNotOpened, ReadFault, WriteFault, LogFault}
+use Rattle.cweb_tools.specs.DeviceModels.{Devices, Logs}
 use Rattle.cweb_files.specs.Sinks.{SinkModel, appended}
-use Rattle.cweb_log.specs.declared.options.Shown.{Shown}
+use Rattle.cweb_tools.specs.declared.options.Shown.{Shown}
 use Rattle.cweb_tools.specs.Acts.{Act, acts_status, logged_items}
 use Rattle.cweb_tools.specs.Headline.{ActsKeepLimits, files_in, written_files, printed_bytes}
 use Rattle.cweb_tools.specs.Script.{TangleCourse, script}
 use Rattle.std.specs.List.{flat_map}
-use Rattle.cweb_input.specs.Include.{World}
-use Rattle.cweb_log.specs.Items.{LogItem, line}
-use Rattle.cweb_log.specs.Log.{stop_line}
-use Rattle.cweb_log.specs.CommandLine.{OptionsModel, WebNames}
+use Rattle.cweb_lines.specs.Include.{World}
+use Rattle.cweb_tools.specs.Items.{LogItem, line}
+use Rattle.cweb_tools.specs.Log.{stop_line}
+use Rattle.cweb_tools.specs.CommandLine.{OptionsModel, WebNames}
 use Rattle.cweb_files.specs.surface.Writes.{WritesPrefix}
 use Rattle.cweb_tools.specs.Course.{Course, IsMergeCourse}
 use Rattle.cweb_tools.specs.MergeActs.{MergePromises, merge_acts, merge_devices}

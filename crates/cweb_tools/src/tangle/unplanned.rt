@@ -3,7 +3,7 @@ ghost use Rattle.std.specs.Prelude.{◌<◌, ◌+◌, ◌^◌, ◌∷◌, IfSome
 ghost use Rattle.cweb_scan.specs.surface.Scan.{scanned_model};
 ghost use Rattle.cweb_out.specs.Outputs.{planned};
 ghost use Rattle.cweb_out.specs.surface.Outputs.{IsExpectedFault};
-ghost use Rattle.cweb_log.specs.Items.{refusal_message};
+ghost use Rattle.cweb_tools.specs.Items.{refusal_message};
 ghost use Rattle.cweb_tools.specs.Acts.{plans};
 ghost use Rattle.cweb_tools.specs.inner.Does.{EndsInLog};
 ghost use Rattle.cweb_tools.specs.Script.{planned_acts, refused};
@@ -11,10 +11,12 @@ ghost use Rattle.cweb_tools.specs.Tangle.{numbers_of, planning};
 ghost use Rattle.cweb_tools.specs.inner.Tangle.{fault_count, status_by, faults_of, files_of};
 ghost use Rattle.cweb_tools.specs.inner.Tangle.{refusal_in};
 
+use crate::log_text::LogText;
+use crate::options::Shown;
 use crate::saying::say_end;
 use crate::web::Web;
+use crate::writing::{log_stop, write_log};
 use cweb_lines::{Sink, Stop};
-use cweb_log::{LogText, Shown, log_stop, write_log};
 use cweb_out::PlanFault;
 
 /// Ends a run whose outputs could not be planned: an allocation failed, or the plan was refused.

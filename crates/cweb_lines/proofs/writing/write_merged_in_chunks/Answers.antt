@@ -1,4 +1,4 @@
-use Rattle.cweb_input.proofs.Errors.{same_error}
+use Rattle.cweb_lines.proofs.Errors.{same_error}
 use Rattle.cweb_lines.proofs.Common.{rules, ◌≡◌, Some, [], Ok, Err, Line, refl, sym, ◌∙◌, Writes, BuffersLines, HasWritten, events_to_come, so_far_of, to_come, so_far, arith}
 use Rattle.cweb_lines.proofs.ReportsOnlyGrow.{grows_reported, reported_same}
 use Rattle.cweb_lines.proofs.BufferedWrites.{failed_next, failed_same, held, held_on, fails_prefix, fails_among, printed_all, printed_before, printed_none, printed_then, written_on}

@@ -1,4 +1,4 @@
-use Rattle.cweb_input.proofs.Errors.{same_error}
+use Rattle.cweb_lines.proofs.Errors.{same_error}
 use Rattle.cweb_scan.proofs.Common.{◌≡◌, ◌≤◌, ◌+◌, ◌*◌, ℕ, None, Some, List, [], ◌∷◌, subst, refl, ap, sym, ◌∙◌, arith, BorrowsLines, Event, SoFar, so_far, to_come, Merger, Stop, ScanEndsEarly, HasTaken, ReaderModel, cost, read_after, yields_both}
 use Rattle.cweb_files.specs.Shelves.{ShelfContents, ShelfModel}
 use Rattle.cweb_lines.proofs.NoReadFails.{unread}

@@ -1,4 +1,5 @@
-use Rattle.cweb_store.proofs.Common.{◌≡◌, ℕ, List, ◌∙◌, ◌&&◌, ◌||◌, not, sym, ap, length, length-map, arith, ◌<◌, Some, option_map, slice_get, list_any, NotPresent, Name, id, is_id, flag_of, has_head, prefix_at}
+use Rattle.cweb_store.proofs.Common.{◌≡◌, ℕ, List, ◌∙◌, ◌&&◌, ◌||◌, not, sym, ap, length, length-map, arith, ◌<◌, Some, option_map, slice_get, list_any, NotPresent, Name, id, is_id, flag_of, has_head}
+use Rattle.cweb_store.proofs.NameLemmas.{prefix_at}
 use Rattle.std.proofs.lemmas.Option.{slice_get-get_or}
 use Rattle.std.specs.Prelude.{slice_index_or}
 use Rattle.cweb_store.proofs.FaultLemmas.{faults-step, first-at}

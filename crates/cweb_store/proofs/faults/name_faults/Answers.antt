@@ -1,5 +1,5 @@
 use Rattle.cweb_store.proofs.Common.{◌≡◌, ◌∙◌, ◌++◌, ◌&&◌, ◌||◌, not, ap, map, Name, list_any, NameId, PrefixOfAnother, NotPresent, is_id, flag_of, has_head, faults_where, is_prefix_of_another, is_missing, is_used, has_part, unresolved_faults}
-use Rattle.cweb_names.specs.Names as spec
+use Rattle.cweb_store.specs.Names as spec
 use Rattle.cweb_store.proofs.faults.name_faults.Goals as goal
 
 pub returns-clause-found : goal.returns-clause-found

@@ -1,6 +1,6 @@
 use Rattle.std.proofs.Common.{◌≡◌, ◌+◌, arith, ◌∙◌, ap, take}
-use Rattle.cweb_input.specs.surface.OpenedFileNames.{opened_file_names}
-use Rattle.cweb_texts.specs.inner.Words.{key_of}
+use Rattle.cweb_lines.specs.surface.OpenedFileNames.{opened_file_names}
+use Rattle.cweb_store.specs.inner.Words.{key_of}
 use Rattle.cweb_tools.specs.Depfile.{add_once, each_once}
 use Rattle.cweb_tools.proofs.NamesOnce.{name_added, pushes_new, skips_known}
 use Rattle.cweb_tools.proofs.depfile.each_once.Goals as goal

@@ -1,5 +1,5 @@
 use Rattle.cweb_tools.proofs.Common.{ℕ, List, Bor, map, option_copied}
-use Rattle.cweb_log.specs.CommandLine.{web_names_by}
+use Rattle.cweb_tools.specs.CommandLine.{web_names_by}
 use Rattle.cweb_tools.specs.MergeActs.{MergePromises, MergesFreely}
 use Rattle.cweb_tools.proofs.InFolder.{runs_in}
 use Rattle.cweb_tools.proofs.in_folder.merge_in_folder.Goals as goal

@@ -1,7 +1,7 @@
 use Rattle.cweb_tools.proofs.Common.{ℕ, List, ap, arith, option_copied, World, OptionsModel, Option, Some, options_of, tangle_later}
 use Rattle.cweb_files.specs.Shelves.{ShelfModel}
 use Rattle.cweb_files.specs.Sinks.{SinkModel}
-use Rattle.cweb_log.specs.DeviceModels.{FailedReads, failed_reads}
+use Rattle.cweb_tools.specs.DeviceModels.{FailedReads, failed_reads}
 use Rattle.cweb_system.specs.Bins.{bins_model, new_shelf}
 use Rattle.cweb_system.specs.inner.FolderCalls.{shelf_model}
 use Rattle.cweb_tools.proofs.Courses.{options_in}

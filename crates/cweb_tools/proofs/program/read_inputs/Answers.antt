@@ -16,3 +16,6 @@ returns-clause-valid g c = λ seen it text is utf8.
     let found : Some c.in-Some.bytes.items ≡ seen.value _ = search rules in
     let no = c.in-Err.ensures.succeeds (subst IsUtf8 (sym (of_some _ _ (found ∙ is))) utf8) in
     absurd (cc)
+
+pub returns-clause-invalid : goal.returns-clause-invalid
+returns-clause-invalid g c = search rules

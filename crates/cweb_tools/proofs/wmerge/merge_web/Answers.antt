@@ -1,5 +1,5 @@
 use Rattle.cweb_tools.proofs.Common.{Some, option_copied, sym, ap, subst, World, FailedReads, SinkModel, at, failed_reads, EndsMerge, WebNames, merge_course, contents_of, world_of, arith}
-use Rattle.cweb_log.specs.inner.LogText.{merge_word_names}
+use Rattle.cweb_tools.specs.inner.LogText.{merge_word_names}
 use Rattle.cweb_tools.proofs.Carried.{observed}
 use Rattle.cweb_tools.proofs.MergeStarts.{start_stopped}
 use Rattle.cweb_tools.proofs.wmerge.merge_web.Goals as goal

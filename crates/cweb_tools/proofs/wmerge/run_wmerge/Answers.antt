@@ -1,5 +1,5 @@
 use Rattle.cweb_tools.proofs.Common.{ℕ, List, Bor, map, web_names_by, merge_acts, ap, Err, refl, Some, World, WebNames, IsMergeCourse, contents_of, failed_reads, world_of, option_copied}
-use Rattle.cweb_log.specs.inner.LogText.{merge_word_names}
+use Rattle.cweb_tools.specs.inner.LogText.{merge_word_names}
 use Rattle.cweb_tools.proofs.Courses.{merge_comes, same_stop}
 use Rattle.cweb_tools.proofs.MergeStarts.{words_stopped}
 use Rattle.cweb_tools.proofs.MergePromisesProved.{one_course}

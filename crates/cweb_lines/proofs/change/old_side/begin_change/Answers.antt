@@ -1,4 +1,4 @@
-use Rattle.cweb_input.proofs.Errors.{same_error}
+use Rattle.cweb_lines.proofs.Errors.{same_error}
 use Rattle.cweb_lines.proofs.NoReadFails.{reads_reported, reads_set, reads_then}
 use Rattle.cweb_lines.proofs.Common.{rules, refl, ap, counters_of, opened_file_names, arith}
 use Rattle.cweb_lines.proofs.OldSideFaults.{closes_all, closes_some}

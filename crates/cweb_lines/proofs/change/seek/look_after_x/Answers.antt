@@ -1,4 +1,4 @@
-use Rattle.cweb_input.proofs.Errors.{same_error}
+use Rattle.cweb_lines.proofs.Errors.{same_error}
 use Rattle.cweb_lines.proofs.Common.{[], append-nil, refl}
 use Rattle.cweb_lines.proofs.change.seek.look_after_x.Goals as goal
 

@@ -1,4 +1,4 @@
-use Rattle.cweb_input.proofs.Errors.{same_error}
+use Rattle.cweb_lines.proofs.Errors.{same_error}
 use Rattle.cweb_lines.proofs.Common.{rules, ◌≡◌, ℕ, [], ◌∷◌, List, Vec, Global, None, refl, ap, sym, subst, sought, counters_of, SourceLine, change_lines, so_far_of, opened_file_names, Searched, SeeksTo, LooksInPart, reported_faults, lines_at, SourceFault, Waiting, arith}
 use Rattle.cweb_lines.proofs.MergeReadersStayNamed.{knows_same}
 use Rattle.cweb_lines.proofs.ReportsOnlyGrow.{reported_if, took_faults, took_names}

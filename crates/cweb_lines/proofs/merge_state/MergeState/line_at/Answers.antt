@@ -1,5 +1,5 @@
 use Rattle.cweb_lines.proofs.Common.{◌<◌, ◌-◌, ap, length, arith, line_number, number_or_zero}
-use Rattle.cweb_input.proofs.SourceStacks.{most_read}
+use Rattle.cweb_lines.proofs.SourceStacks.{most_read}
 use Rattle.cweb_lines.proofs.merge_state.MergeState.line_at.Goals as goal
 
 pub overflow_add-result : goal.overflow_add-result

@@ -1,5 +1,6 @@
+use Rattle.std.proofs.Common.{rules}
 use Rattle.cweb_lines.proofs.Common.{◌≡◌, ◌-◌, ◌<◌, ◌∙◌, ℕ, List, None, Some, ap, arith, length, subst, get_or_default, IfSome, FitsLimitsAt, LooksAheadIn, IsStretchAt, pending_in, line_number, number_or_zero, top_of}
-use Rattle.cweb_input.proofs.SourceStacks.{most_at}
+use Rattle.cweb_lines.proofs.SourceStacks.{most_at}
 use Rattle.cweb_lines.proofs.Lookahead.{are_ahead, looks_next}
 use Rattle.cweb_lines.proofs.merger.Merger.next_ahead.Goals as goal
 
@@ -34,3 +35,6 @@ line_after-requires-clause-fits g c =
         run.numbers,
       ),
     )
+
+pub line_after-requires-clause-joins : goal.line_after-requires-clause-joins
+line_after-requires-clause-joins g c = search rules

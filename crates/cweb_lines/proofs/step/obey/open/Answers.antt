@@ -1,6 +1,7 @@
+use Rattle.std.proofs.Common.{rules}
 use Rattle.cweb_lines.proofs.Common.{◌≡◌, ◌∷◌, [], ℕ, List, sym, arith, ap, ◌∙◌, length-append, string_bytes, ◌++◌, subst, get_or, get_or_push, opened_file_names, AreReadersNamed, IsReaderNamed}
-use Rattle.cweb_input.proofs.ReadersStayNamed.{change_more, named_more, named_set}
-use Rattle.cweb_input.proofs.SourceStacks.{most_set}
+use Rattle.cweb_lines.proofs.ReadersStayNamed.{change_more, named_more, named_set}
+use Rattle.cweb_lines.proofs.SourceStacks.{most_set}
 use Rattle.cweb_lines.proofs.step.obey.open.Goals as goal
 
 pub invariant_of-run-2 : goal.invariant_of-run-2
@@ -23,3 +24,6 @@ returns-clause-readers g c = λ opened_as opened known.
       change = subst (λ (ns : List (List ℕ)). IsReaderNamed opened_as ns run.change) (sym names)
           (change_more opened_as (opened_file_names run.names) more run.change run.change_known known.change);
     }
+
+pub returns-clause-opens : goal.returns-clause-opens
+returns-clause-opens g c = search rules

@@ -1,4 +1,4 @@
-use Rattle.cweb_input.proofs.Errors.{same_error}
+use Rattle.cweb_lines.proofs.Errors.{same_error}
 use Rattle.cweb_lines.proofs.Common.{rules, ◌∷◌, List, length, ap, sym, ◌∙◌, refl, at_place, counters_of, world_in, Event, fault, so_far_of, opened_file_names, floor_of, NoMatch}
 use Rattle.cweb_lines.proofs.Merges.{yields_fault}
 use Rattle.cweb_lines.proofs.MergeStateEvents.{no_match, nothing_above}

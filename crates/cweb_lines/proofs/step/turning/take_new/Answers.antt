@@ -1,7 +1,7 @@
-use Rattle.cweb_input.proofs.Errors.{same_error}
+use Rattle.cweb_lines.proofs.Errors.{same_error}
 use Rattle.cweb_lines.proofs.Common.{Some, ap, sym, ◌∙◌, change_code, counters_of, so_far_of, arith}
 use Rattle.cweb_lines.proofs.ReportsOnlyGrow.{took_faults, took_names}
-use Rattle.cweb_input.proofs.Found.{IfOk-map}
+use Rattle.cweb_lines.proofs.Found.{IfOk-map}
 use Rattle.cweb_lines.proofs.EmittedLinesAddUp.{yields_took}
 use Rattle.cweb_lines.proofs.NewSideLines.{coming_is, new_ended, new_faulty, new_first, new_side_ended, new_stops}
 use Rattle.cweb_lines.proofs.NoReadFails.{still_seen}

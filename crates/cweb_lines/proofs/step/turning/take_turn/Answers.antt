@@ -1,4 +1,4 @@
-use Rattle.cweb_input.proofs.Errors.{same_error}
+use Rattle.cweb_lines.proofs.Errors.{same_error}
 use Rattle.cweb_lines.proofs.Common.{rules, arith}
 use Rattle.cweb_lines.proofs.NoReadFails.{quiet_same}
 use Rattle.cweb_lines.proofs.Turns.{sought_yields, sought_stops, sought_tells}

@@ -1,3 +1,4 @@
+use Rattle.std.proofs.Common.{rules}
 use Rattle.cweb_out.proofs.Common.{arith, ◌≡◌, ◌∷◌, vec_capacity, refl, sym, ap, ◌∙◌, subst, Some, length, All, all_tokens, Stored, resolved_use, joined, PartIsWithin, tokens_of_parts}
 use Rattle.cweb_out.proofs.Owners.{room-above}
 use Rattle.cweb_out.proofs.StackUses.{Entered, entered}
@@ -24,3 +25,6 @@ returns-clause-keeps c = record { store = refl; plan = refl; valid = (all c).val
 
 pub returns-clause-enters : goal.returns-clause-enters
 returns-clause-enters c = (all c).enters
+
+pub returns-in_default-next-clause-keeps : goal.returns-in_default-next-clause-keeps
+returns-in_default-next-clause-keeps c = search rules

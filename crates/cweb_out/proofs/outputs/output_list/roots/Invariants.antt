@@ -1,5 +1,5 @@
 use Rattle.cweb_out.proofs.Common.{◌≡◌, ◌∷◌, take, Some, None, map, All, filter, has_part, IsRoot}
-use Rattle.cweb_names.specs.Names as spec
+use Rattle.cweb_store.specs.Names as spec
 use Rattle.cweb_out.proofs.outputs.output_list.roots.Given as goal
 
 abbrev pub invariant-files : goal.invariant-files

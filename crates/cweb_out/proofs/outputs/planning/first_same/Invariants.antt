@@ -1,5 +1,5 @@
 use Rattle.cweb_out.proofs.Common.{◌≡◌, None, take, find, bytes_eq, name_spelling}
-use Rattle.cweb_names.specs.Names as spec
+use Rattle.cweb_store.specs.Names as spec
 use Rattle.cweb_out.proofs.outputs.planning.first_same.Given as goal
 
 abbrev pub invariant-files : goal.invariant-files

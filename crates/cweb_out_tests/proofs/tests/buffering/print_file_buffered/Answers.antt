@@ -1,6 +1,6 @@
 use Rattle.std.proofs.Common.{rules, ◌∙◌, ap}
-use Rattle.cweb_print.specs.surface.Printed.{setting_of}
-use Rattle.cweb_print.specs.Printing.{Setting}
+use Rattle.cweb_out.specs.surface.Printed.{setting_of}
+use Rattle.cweb_out.specs.Printing.{Setting}
 use Rattle.cweb_out_tests.proofs.tests.buffering.print_file_buffered.Goals as goal
 
 pub append-requires-in-tokens-clause-named : goal.append-requires-in-tokens-clause-named

@@ -1,7 +1,7 @@
 use Rattle.std.proofs.Common.{◌≡◌, vec_capacity}
-use Rattle.cweb_input.specs.surface.OpenedFileNames.{opened_file_names}
+use Rattle.cweb_lines.specs.surface.OpenedFileNames.{opened_file_names}
 use Rattle.cweb_out.specs.surface.FrameStacks.{IsFrameStack}
-use Rattle.cweb_print.specs.surface.Printed.{setting_of}
+use Rattle.cweb_out.specs.surface.Printed.{setting_of}
 use Rattle.cweb_out_tests.proofs.tests.reports.print_file.Given as goal
 
 abbrev pub invariant-tokens : goal.invariant-tokens

@@ -1,4 +1,4 @@
-use Rattle.cweb_input.proofs.Found.{IfOk-map}
+use Rattle.cweb_lines.proofs.Found.{IfOk-map}
 use Rattle.cweb_scan.proofs.Common.{sym, ap, ◌∙◌, arith, drop, ◌+◌, literal_match, look_in_literal, IsLine-take, ap, refl}
 use Rattle.cweb_rules.specs.inner.LineItems.{goes_on}
 use Rattle.cweb_rules.proofs.LineLiterals.{is_quoted-size}

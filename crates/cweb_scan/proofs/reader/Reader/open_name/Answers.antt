@@ -1,4 +1,4 @@
-use Rattle.cweb_input.proofs.Found.{IfOk-map}
+use Rattle.cweb_lines.proofs.Found.{IfOk-map}
 use Rattle.cweb_scan.proofs.Common.{sym, ap, drop, ◌∙◌, subst, is_unclosed, Reached, ReaderModel, name_match, takes_opener, IsLine-take, AppliesOver, []}
 use Rattle.cweb_rules.proofs.UnitNewlines.{none-ends}
 use Rattle.cweb_scan.proofs.InLineItemSteps.{whole_at}

@@ -1,4 +1,4 @@
-use Rattle.cweb_input.proofs.Found.{IfOk-map}
+use Rattle.cweb_lines.proofs.Found.{IfOk-map}
 use Rattle.cweb_scan.proofs.Common.{◌≡◌, true, false, get_or, ap, sym, ◌∙◌, subst, effect_match, Effect, names_include, Applies, effect_in, is_name_effect, ReaderModel}
 use Rattle.cweb_scan.proofs.InLineItemSteps.{closed_at}
 use Rattle.cweb_scan.proofs.CodeSteps.{plain_prefix}

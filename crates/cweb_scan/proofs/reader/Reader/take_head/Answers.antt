@@ -1,4 +1,4 @@
-use Rattle.cweb_input.proofs.Found.{IfOk-map}
+use Rattle.cweb_lines.proofs.Found.{IfOk-map}
 use Rattle.cweb_scan.proofs.Common.{ℕ, false, List, refl, ap, sym, ◌∙◌, line_comment_match}
 use Rattle.cweb_rules.specs.declared.rule.Rule.TheVariants as rule
 use Rattle.cweb_scan.proofs.HeadSteps.{dropped_at, foreign_rule}

@@ -1,4 +1,4 @@
-use Rattle.cweb_input.proofs.Found.{IfOk-map}
+use Rattle.cweb_lines.proofs.Found.{IfOk-map}
 use Rattle.cweb_scan.proofs.Common.{sym, ◌∙◌, section_match, names_include}
 use Rattle.cweb_scan.proofs.InLineItemSteps.{closed_at}
 use Rattle.cweb_scan.proofs.CodeSteps.{section_text, skipped_at, text_head}

@@ -1,3 +1,4 @@
+use Rattle.std.proofs.Common.{rules}
 use Rattle.cweb_scan.proofs.Common.{sym, subst, arith, Contents, IsTied}
 use Rattle.cweb_scan.proofs.TiedSteps.{tied_dropped}
 use Rattle.cweb_store.proofs.CallerLemmas.{token_count_dropped}
@@ -11,3 +12,6 @@ invariant_of-self c =
 
 pub emit-requires-clause-few : goal.emit-requires-clause-few
 emit-requires-clause-few c = grind (arith, token_count_dropped)
+
+pub returns : goal.returns
+returns c = search rules

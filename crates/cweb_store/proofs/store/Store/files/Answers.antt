@@ -1,5 +1,5 @@
 use Rattle.cweb_store.proofs.Common.{◌≡◌, ◌<◌, List, length, sym, ◌∙◌, ap, subst, All, NameId}
-use Rattle.cweb_names.specs.Names as spec
+use Rattle.cweb_store.specs.Names as spec
 use Rattle.cweb_store.proofs.BoundLemmas.{files-within}
 use Rattle.cweb_store.proofs.store.Store.files.Goals as goal
 

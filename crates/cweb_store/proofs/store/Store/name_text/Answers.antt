@@ -1,5 +1,5 @@
 use Rattle.cweb_store.proofs.Common.{arith}
-use Rattle.cweb_names.proofs.OccurrenceTableLemmas.{occurrences-count}
+use Rattle.cweb_store.proofs.OccurrenceTableLemmas.{occurrences-count}
 use Rattle.cweb_store.proofs.StoredLemmas.{first-string}
 use Rattle.cweb_store.proofs.store.Store.name_text.Goals as goal
 

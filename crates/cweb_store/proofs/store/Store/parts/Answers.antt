@@ -1,6 +1,6 @@
 use Rattle.cweb_store.proofs.Common.{◌<◌, ◌↔◌, List, length, sym, subst, IsTrue, is_of, has_part}
 use Rattle.cweb_store.specs.declared.parts.Part.{Part}
-use Rattle.cweb_names.specs.Names as spec
+use Rattle.cweb_store.specs.Names as spec
 use Rattle.cweb_store.proofs.PartLemmas.{numbers-some}
 use Rattle.cweb_store.proofs.store.Store.parts.Goals as goal
 

@@ -1,5 +1,5 @@
 use Rattle.cweb_store.proofs.Common.{◌≡◌, ◌<◌, Option, length, sym, ◌∙◌, ap, subst, IfSome, NameId}
-use Rattle.cweb_names.specs.Names as spec
+use Rattle.cweb_store.specs.Names as spec
 use Rattle.cweb_store.proofs.BoundLemmas.{standing-within}
 use Rattle.cweb_store.proofs.store.Store.standing.Goals as goal
 

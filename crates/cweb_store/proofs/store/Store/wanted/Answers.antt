@@ -1,5 +1,5 @@
 use Rattle.cweb_store.proofs.Common.{◌≡◌, ◌≤◌, List, sym, subst, ◌∙◌, ap, arith, All, all_tokens, tokens_at, length-map, length-filter, count_by-le-length, ranges_from, is_wanted, wanted_in}
-use Rattle.cweb_names.specs.Names as spec
+use Rattle.cweb_store.specs.Names as spec
 use Rattle.cweb_store.specs.declared.parts.Part.{Part}
 use Rattle.cweb_store.proofs.PartLemmas.{part-ranges, tokens_at-numbers, numbers-within, numbers-ordered}
 use Rattle.cweb_store.proofs.store.Store.wanted.Goals as goal

@@ -1,4 +1,5 @@
-use Rattle.cweb_store.proofs.Common.{rules, ◌≡◌, true, is_known_edge, get-string}
+use Rattle.cweb_store.proofs.Common.{rules, ◌≡◌, true, is_known_edge}
+use Rattle.cweb_store.proofs.StringListLemmas.{get-string}
 use Rattle.cweb_store.proofs.DirectBytesLemmas.{sign-borrows}
 use Rattle.cweb_store.proofs.tokens.token_reader.direct_punctuator.Goals as goal
 

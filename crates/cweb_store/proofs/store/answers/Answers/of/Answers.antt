@@ -1,5 +1,5 @@
 use Rattle.cweb_store.proofs.Common.{◌≡◌, refl, length, sym, ◌∙◌, ap, PartRange, has_part, list_any, is_of, [], arith, Name, names, length-map}
-use Rattle.cweb_names.specs.inner.Known.{files_from}
+use Rattle.cweb_store.specs.inner.Known.{files_from}
 use Rattle.cweb_store.proofs.BoundLemmas.{resolutions-within}
 use Rattle.cweb_store.proofs.NameSetLemmas.{any-part}
 use Rattle.cweb_store.proofs.store.answers.Answers.of.Goals as goal

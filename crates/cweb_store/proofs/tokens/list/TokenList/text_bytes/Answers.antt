@@ -1,6 +1,6 @@
 use Rattle.cweb_store.proofs.Common.{◌∙◌, ap, length, sym, flat_map, subst, AreInOneList, token_strings}
 use Rattle.cweb_store.proofs.TokenStringLemmas.{tokens-valid}
-use Rattle.cweb_texts.specs.inner.StringLists.{text_bytes}
+use Rattle.cweb_store.specs.inner.StringLists.{text_bytes}
 use Rattle.cweb_store.specs.inner.PartRanges.{TokenListModel}
 use Rattle.cweb_store.proofs.tokens.list.TokenList.text_bytes.Goals as goal
 

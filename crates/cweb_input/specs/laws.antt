@@ -1,2 +1,0 @@
--- Definitions that only laws cite.
-pub mod Lines

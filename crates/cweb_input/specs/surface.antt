@@ -1,3 +1,0 @@
--- Definitions that public calls cite and the headline does not.
-pub mod OpenSources
-pub mod OpenedFileNames

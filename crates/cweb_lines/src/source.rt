@@ -1,0 +1,88 @@
+// A reader with its buffer, and how a line ended.
+ghost use Rattle.std.specs.Prelude.{◌≡◌, ◌≤◌, ◌<◌, length, IfOk};
+ghost use Rattle.cweb_lines.specs.inner.Finding.{byte_before};
+ghost use Rattle.cweb_lines.specs.declared.source.LineFault.TheVariants.{Memory};
+
+use crate::buffer_pool::new_buffer;
+use std::alloc::{AllocError, Global};
+
+/// Why a line could not be taken.
+#[derive(Clone, Copy)]
+pub enum LineFault {
+    Read,
+    /// It has more than `LINE_LENGTH` bytes.
+    TooLong,
+    Memory,
+}
+
+impl From<AllocError> for LineFault {
+    ghost from_gives = { λ _ e. e ≡ Memory };
+
+    fn from(_: AllocError) -> Self {
+        LineFault::Memory
+    }
+}
+
+/// How a line ended.
+#[derive(Clone, Copy)]
+pub enum LineTermination {
+    /// There is no more line.
+    Ended,
+    /// It is the last line and has no newline.
+    Last,
+    /// It has a newline.
+    Full,
+}
+
+/// A reader and its buffer. The bytes from `start` to `end` were read and not yet taken.
+#[derive(Drop)]
+pub struct Source<R: Drop> {
+    // Boxed, so that the size of an array of open sources doesn't depend on the reader's type.
+    pub reader: Box<R>,
+    pub buffer: Vec<u8>,
+    pub start: usize,
+    pub end: usize,
+    /// The end of the last whole line in the buffer: just after the last newline, or 0 if it has none.
+    pub lines_end: usize,
+    ghost ordered: { start ≤ end },
+    ghost within: { end ≤ length buffer.items },
+    ghost some: { 0 < length buffer.items },
+    ghost whole: { lines_end ≤ end },
+    ghost newline: { byte_before buffer.items lines_end ≡ 10 },
+}
+
+impl<R: Drop> Source<R> {
+    ghost use Rattle.cweb_lines.specs.surface.OpenSources.{buffered};
+    ghost use Rattle.std.specs.Prelude.{[]};
+
+    /// Nothing is read yet. It allocates a buffer.
+    pub fn new(alloc: Global, reader: R) -> Result<Self, AllocError>
+        ensures reader { IfOk result (λ source. source.reader.value ≡ reader) }
+        ensures pending { IfOk result (λ source. buffered source ≡ []) }
+    {
+        let buffer = new_buffer(alloc)?;
+        Source::with_buffer(alloc, reader, buffer)
+    }
+
+    /// Nothing is read yet. The old contents of the buffer are never seen.
+    pub fn with_buffer(alloc: Global, reader: R, buffer: Vec<u8>) -> Result<Self, AllocError>
+        requires { 0 < length buffer.items }
+        ensures reader { IfOk result (λ source. source.reader.value ≡ reader) }
+        ensures pending { IfOk result (λ source. buffered source ≡ []) }
+    {
+        Ok(Source {
+            reader: Box::new(alloc, reader)?,
+            buffer,
+            start: 0,
+            end: 0,
+            lines_end: 0,
+        })
+    }
+
+    /// The buffer, for a file that is opened later.
+    pub fn into_buffer(self) -> Vec<u8>
+        ensures { result ≡ self.buffer }
+    {
+        self.buffer
+    }
+}

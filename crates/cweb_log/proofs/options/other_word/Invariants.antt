@@ -1,6 +1,0 @@
-use Rattle.cweb_log.proofs.Common.{◌≡◌, drop, map, slice_get, other_words}
-use Rattle.cweb_log.proofs.options.other_word.Given as goal
-
-abbrev pub invariant-words : goal.invariant-words
-invariant-words l = slice_get (other_words (map (λ word. word.now) (drop l.word-index l.words))) l.left
-    ≡ slice_get (other_words (map (λ word. word.now) l.words)) l.number

@@ -1,2 +1,0 @@
--- Definitions that only the functions of this crate cite.
-pub mod LogText

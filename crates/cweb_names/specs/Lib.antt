@@ -1,4 +1,0 @@
-pub mod Names
-pub mod surface
-pub mod laws
-pub mod inner

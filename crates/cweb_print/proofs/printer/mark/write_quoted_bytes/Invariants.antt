@@ -1,7 +1,0 @@
-use Rattle.cweb_print.proofs.Common.{◌≡◌, written, take, quoted}
-use Rattle.cweb_print.proofs.printer.mark.write_quoted_bytes.Given as goal
-
-abbrev pub invariant-bytes : goal.invariant-bytes
-invariant-bytes g l = record {
-  wrote : g.W.Sink.model l.out ≡ written (quoted (take l.byte-index l.name)) (g.W.Sink.model l.fn.out);
-}

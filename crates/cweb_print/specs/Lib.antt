@@ -1,4 +1,0 @@
-pub mod Spacing
-pub mod Printing
-pub mod surface
-pub mod inner

@@ -1,3 +1,0 @@
--- Definitions that only the functions of this crate cite.
-pub mod BufferedPrinting
-pub mod Classes

@@ -1,2 +1,0 @@
--- Definitions that public calls cite and the headline does not.
-pub mod Printed

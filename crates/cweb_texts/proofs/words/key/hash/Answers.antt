@@ -1,7 +1,0 @@
-use Rattle.std.proofs.Common.{rules}
-use Rattle.cweb_texts.specs.inner.Words.{hash_of}
-use Rattle.cweb_texts.proofs.words.key.hash.Goals as goal
-
-pub returns : goal.returns
-unfolding hash_of
-returns c = search rules

@@ -1,7 +1,0 @@
-use Rattle.cweb_texts.proofs.Common.{◌*◌, ◌/◌, ◌^◌, ap}
-use Rattle.cweb_texts.specs.inner.Words.{home_bucket_of}
-use Rattle.cweb_texts.proofs.words.key.home_bucket.Goals as goal
-
-pub returns-clause-is : goal.returns-clause-is
-unfolding home_bucket_of
-returns-clause-is c = ap (λ m. (m * c.args.slots) / 2 ^ 64) c.key_hash.ensures

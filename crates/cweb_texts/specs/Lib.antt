@@ -1,3 +1,0 @@
-pub mod Edges
-pub mod surface
-pub mod inner

@@ -1,2 +1,0 @@
--- What public calls promise beside the headline.
-pub mod StringTables
