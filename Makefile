@@ -42,7 +42,7 @@ TESTS ?=
 KIT := rattle-kit-13
 SOURCES := HANDLES crates.txt $(shell find crates -name out -prune -o -type f \( -name '*.rt' -o -name '*.antt' \) -print)
 NOT_PROVED := echo 'NOTHING IN THIS BUILD IS PROVED. "make build" proves all programs (20 to 30 minutes the first time, on four processors),'; \
-    echo 'and "make check" tests the proofs, the contracts and the programs as well (an hour or more).'
+    echo 'and "make check" tests the proofs, the contracts and the programs as well (40 minutes or more).'
 
 .PHONY: all help demo build check format faults fuzz dist install uninstall installcheck bench clean distclean
 
