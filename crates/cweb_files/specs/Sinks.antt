@@ -1,6 +1,5 @@
 -- What is known of a sink or of bins, and how calls change it.
-use Rattle.std.specs.Prelude.{◌≡◌, ◌+◌, ℕ, List, [], ◌++◌, Option, Some, None, IfSome, IsSome}
-use Rattle.std.specs.Prelude.{option_map}
+use Rattle.std.specs.Prelude.{◌≡◌, ◌+◌, ℕ, List, [], ◌++◌, Option, Some, None, IfSome, IsSome, option_map}
 use Rattle.cweb_files.specs.Files.{File, with_bytes}
 use Rattle.cweb_files.specs.declared.bins.BinFault.{BinFault}
 

@@ -1,8 +1,7 @@
 // The trait of a device that stores named files.
 ghost use Rattle.std.specs.Prelude.{◌≡◌, ◌<◌, ◌+◌, ◌^◌, IfErr, OnOk, OnErr};
 ghost use Rattle.cweb_files.specs.Bins.{refused};
-ghost use Rattle.cweb_files.specs.Sinks.{HasDraft, changed, committed, failing, with_draft};
-ghost use Rattle.cweb_files.specs.Sinks.{without_draft};
+ghost use Rattle.cweb_files.specs.Sinks.{HasDraft, changed, committed, failing, with_draft, without_draft};
 
 pub mod memory;
 

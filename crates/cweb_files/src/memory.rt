@@ -142,8 +142,7 @@ impl MemorySink {
 }
 
 impl Sink for MemorySink {
-    ghost use Rattle.cweb_files.specs.surface.MemoryDevices.{sink_bytes, sink_failed, sink_model};
-    ghost use Rattle.cweb_files.specs.surface.MemoryDevices.{sink_room};
+    ghost use Rattle.cweb_files.specs.surface.MemoryDevices.{sink_bytes, sink_failed, sink_model, sink_room};
 
     ghost model = { sink_model };
 

@@ -3,7 +3,7 @@ pub use Rattle.std.proofs.Common.{◌≡◌, ◌+◌, ℕ, List, [], ◌∷◌, 
 pub use Rattle.std.proofs.Common.{length-append, map, ◌≤◌, ◌<◌, ◌-◌, Option, None, Some, zero, suc, Bool, true, false}
 pub use Rattle.std.proofs.Common.{◌||◌, if◌then◌else◌, ◌≢◌, ◌==◌, ◌&&◌, cond, ◌⊎◌, inl, inr, Err, get_or, take, drop}
 pub use Rattle.std.proofs.Common.{get_or-set_same, rules, string_bytes, Vec, Global, eqb, replicate, ⊎_elim}
-pub use Rattle.std.proofs.Common.{take-append-drop, ◌%◌, ◌^◌, w8, w64, set}
+pub use Rattle.std.proofs.Common.{take-append-drop, ◌%◌, ◌^◌, w8, w64, set, get_or-set_other}
 pub use Rattle.std.proofs.Math.Bool.{or-true, or-false}
 pub use Rattle.std.proofs.Math.Nat.{le-max_left, le-max_right, max-le}
 pub use Rattle.std.proofs.Math.Seq.{take-add, take-append-add, drop-append-add, take-append_seam}
@@ -29,6 +29,7 @@ pub use Rattle.cweb_files.specs.declared.place.Place.{Place}
 pub use Rattle.cweb_files.specs.surface.Writes.{Prints, WritesPrefix}
 pub use Rattle.memchr.specs.Find.{IsFirstByte, is_byte}
 pub use denote.Enum.Bare.{sameb}
+pub use Rattle.cweb_lines.proofs.Errors.{same_error}
 pub use Rattle.cweb_lines.proofs.EnoughSteps.{merge_yields, merge_next, merge-run_steps, merge_end}
 pub use Rattle.cweb_lines.proofs.Terms.{HasWritten, SeeksTo, BuffersLines}
 pub use Rattle.cweb_lines.specs.Change.{WaitingEntry, at_place, OldSide, change_code, old_after, old_at, old_lines}
@@ -64,7 +65,7 @@ pub use Rattle.cweb_lines.specs.declared.open_source.OpenSource.{OpenSource}
 pub use Rattle.cweb_lines.specs.declared.open_source.stack.Stack.{Stack}
 pub use Rattle.cweb_lines.specs.declared.passing.line_span.LineSpan.{LineSpan}
 pub use Rattle.cweb_lines.specs.declared.passing.stretch.Stretch.{Stretch}
-pub use Rattle.cweb_lines.specs.declared.source.LineFault.TheVariants.{TooLong}
+pub use Rattle.cweb_lines.specs.declared.source.LineFault.TheVariants.{TooLong, Read}
 pub use Rattle.cweb_lines.specs.declared.source.LineTermination.TheVariants.{Full}
 pub use Rattle.cweb_lines.specs.declared.step.Turn.{Turn}
 pub use Rattle.cweb_lines.specs.declared.step.Turn.TheVariants.{Emitted, On, Ended}
@@ -72,31 +73,29 @@ pub use Rattle.cweb_lines.specs.declared.stop.Stop.{Stop}
 pub use Rattle.cweb_lines.specs.declared.stop.Stop.TheVariants.{ReadFault, Memory, LineTooLong, TooMuchText, WriteFault}
 pub use Rattle.cweb_lines.specs.inner.Ahead.{FitsLimits, FitsLimitsAt, IsAhead, LooksAhead, LooksAheadIn, BorrowsLines}
 pub use Rattle.cweb_lines.specs.inner.Ahead.{line_span_at}
-pub use Rattle.cweb_lines.specs.inner.ChangeProgress.{Compares, IsReplaced, Replaces, IsChanged, ReportsFaultPrefix}
-pub use Rattle.cweb_lines.specs.inner.ChangeProgress.{StopsOldSide, old_side_of, LooksInPart, Searched, search_after}
-pub use Rattle.cweb_lines.specs.inner.ChangeProgress.{BegunKnown}
+pub use Rattle.cweb_lines.specs.inner.MergeProgress.{Compares, IsReplaced, Replaces, IsChanged, ReportsFaultPrefix}
+pub use Rattle.cweb_lines.specs.inner.MergeProgress.{StopsOldSide, old_side_of, LooksInPart, Searched, search_after}
+pub use Rattle.cweb_lines.specs.inner.MergeProgress.{BegunKnown}
 pub use Rattle.cweb_lines.specs.inner.Finding.{lines_found, found_as, SplitsAt, until_name_end, IsNewlineAt}
 pub use Rattle.cweb_lines.specs.inner.MergeProgress.{events_after_line, EmitsAfterLine, turns_left, turn_lines}
 pub use Rattle.cweb_lines.specs.inner.MergeProgress.{FailsAmong}
 pub use Rattle.cweb_lines.specs.inner.OpenSources.{CountsLine, files_up_to, raw_thing, TopStops, FirstStops, StaysBelow}
-pub use Rattle.cweb_lines.specs.inner.OpenSources.{OpensSource, StopsAbove, TakesAbove, TakesFirst, Counted}
-pub use Rattle.cweb_lines.specs.inner.OpenSources.{line_number}
+pub use Rattle.cweb_lines.specs.inner.OpenSources.{OpensSource, StopsAbove, TakesAbove, TakesFirst, Counted, AreDeep}
+pub use Rattle.cweb_lines.specs.inner.OpenSources.{line_number, TakesNextLine, stop_for, maximum_of}
 pub use Rattle.cweb_lines.specs.inner.Passing.{ComesNext, EmitsBufferedLines, HasRoomFor, IsStretch, Reaches}
 pub use Rattle.cweb_lines.specs.inner.Passing.{IsStretchAt, IsStretchOf, line_with_newline, lines_next, top_of}
-pub use Rattle.cweb_lines.specs.inner.Passing.{AppendsPassedLines, AllPassThrough, trimmed_with_newlines, sources_next}
+pub use Rattle.cweb_lines.specs.inner.Passing.{AppendsPassedLines, trimmed_with_newlines, sources_next}
 pub use Rattle.cweb_lines.specs.inner.Passing.{with_newlines, stretch_bytes, PassesThrough, buffer_of, PassesTop}
 pub use Rattle.cweb_lines.specs.inner.Passing.{KeepsLevel, PassesSlot, all_but_last, OnlyLastExceeds}
-pub use Rattle.cweb_lines.specs.inner.Source.{IsLongerThan, TakesRawLine, TakesFromBuffer, bytes_left}
-pub use Rattle.cweb_lines.specs.inner.Stages.{IsSettled, floor_of, begun_by, begun_stage, files_begun, stage_for}
+pub use Rattle.cweb_lines.specs.inner.LineCalls.{IsLongerThan, TakesRawLine, TakesFromBuffer, bytes_left}
+pub use Rattle.cweb_lines.specs.inner.Stages.{IsSettled, floor_of, begun_by, files_begun, stage_for}
 pub use Rattle.cweb_lines.specs.inner.Stages.{IsOutside}
 pub use Rattle.cweb_lines.specs.inner.StepCalls.{KeepsReaders, OnlyOpens, OnlyTakes, OnlyReports}
 pub use Rattle.cweb_lines.specs.laws.Laws.{is_change_code, IncludeLinesAreReplaced, Includes, LinesComeApart}
-pub use Rattle.cweb_lines.specs.laws.Laws.{IsPlainSplice, Splice, spliced, web_lines, UnmatchedEntriesAreReported}
-pub use Rattle.cweb_lines.specs.laws.Laws.{ChangesSplice, WebsWithoutIncludesAreTheirOwnLines}
-pub use Rattle.cweb_lines.specs.laws.Lines.{lines}
-pub use Rattle.cweb_lines.specs.laws.MergeOutcome.{outcome_of_events, followed_by, only_lines, MergeOutcome}
-pub use Rattle.cweb_lines.specs.laws.MergeOutcome.{outcome_of_lines, placed, placed_line, only_fault}
-pub use Rattle.cweb_lines.specs.surface.EnoughSteps.{merge}
+pub use Rattle.cweb_lines.specs.laws.Laws.{UnmatchedEntriesAreReported, WebsWithoutIncludesAreTheirOwnLines}
+pub use Rattle.cweb_lines.specs.laws.Laws.{outcome_of_events, followed_by, lines, only_lines, MergeOutcome}
+pub use Rattle.cweb_lines.specs.laws.Laws.{outcome_of_lines, placed, placed_line, only_fault}
+pub use Rattle.cweb_lines.specs.surface.MergeProgress.{merge}
 pub use Rattle.cweb_lines.specs.surface.MergeProgress.{SoFar, EmitsLines, ReportsPrefix, ReadsNext, IsAtEnd, Stopped}
 pub use Rattle.cweb_lines.specs.surface.MergeProgress.{pending_of, so_far_of, IsPrefix, KeepsReported, change_lines}
 pub use Rattle.cweb_lines.specs.surface.MergeProgress.{events_to_come, things_of, NothingLeft, StopsAfterLines}
@@ -106,7 +105,12 @@ pub use Rattle.cweb_lines.specs.surface.MergerCalls.{AreReadersKnown, Grows, to_
 pub use Rattle.cweb_lines.specs.surface.OpenSources.{files_named, counters_of, StopsFor, matches_at, number_or_zero}
 pub use Rattle.cweb_lines.specs.surface.OpenSources.{source_depth, things_above, things_over, lines_at, lines_left}
 pub use Rattle.cweb_lines.specs.surface.OpenSources.{StopsReading, AreReadersNamed, IsReaderNamed, buffered}
+pub use Rattle.cweb_lines.specs.surface.OpenSources.{shelf_after}
 pub use Rattle.cweb_lines.specs.surface.OpenedFileNames.{optional_string_bytes, world_in, IsOneLine, HasNoNewline}
 pub use Rattle.cweb_lines.specs.surface.OpenedFileNames.{opened_file_names}
 pub use Rattle.cweb_lines.specs.surface.Writing.{write_failures_of, LosesLine, StopsWriting, WritingStops, LeavesSink}
 pub use Rattle.cweb_lines.specs.surface.Writing.{Writes, KeepsStop, WritesAll, WritesSome, WritesUpTo}
+pub use Rattle.cweb_files.proofs.Appending.{fails_then, written_none}
+pub use Rattle.cweb_files.specs.declared.place.FileId.{FileId}
+pub use Rattle.cweb_lines.specs.declared.source.LineFault.{LineFault}
+pub use Rattle.cweb_files.specs.Shelves.{Observed, ShelfContents, ShelfModel}

@@ -3,10 +3,10 @@ use Rattle.std.proofs.Common.{◌≡◌, ℕ, zero, suc, List, [], ◌++◌, Opt
 use Rattle.cweb_lines.specs.Include.{World}
 use Rattle.cweb_lines.specs.Events.{Event}
 use Rattle.cweb_lines.specs.Merge.{MergeStateModel, Next, step, onto, step_then_run, run_steps, Yields}
-use Rattle.cweb_lines.specs.surface.EnoughSteps.{enough_steps, merge}
+use Rattle.cweb_lines.specs.surface.MergeProgress.{enough_steps, merge}
 use Rattle.cweb_lines.proofs.Halting.{comes}
 
-onto_some : (events all : List Event) (later : Option (List Event)) → onto events later ≡ Some all →
+pub onto_some : (events all : List Event) (later : Option (List Event)) → onto events later ≡ Some all →
     (rest : List Event) × (later ≡ Some rest) × (events ++ rest ≡ all)
 onto_some events all None is = absurd (cc)
 onto_some events all (Some rest) is = (rest, refl, cc)

@@ -12,7 +12,7 @@ use Rattle.cweb_lines.specs.declared.change.code.Code.{Code}
 use Rattle.cweb_lines.specs.declared.change.code.Code.TheVariants.{OldSide as old_side, NewSide as new_side, EndSide as end_side}
 use Rattle.cweb_lines.specs.Events.{Event}
 use Rattle.cweb_lines.specs.Merge.{MergeStateModel, new_at, new_lines, after_old, Next, obeyed, open_include, included, plain, at_entry, at_raw, past, step, onto, step_then_run, run_steps}
-use Rattle.cweb_lines.specs.surface.EnoughSteps.{steps_of_lines, steps_of_file, steps_of_line, steps_of_things, steps_of_change, steps_of_entry, enough_steps}
+use Rattle.cweb_lines.specs.surface.MergeProgress.{steps_of_lines, steps_of_file, steps_of_line, steps_of_things, steps_of_change, steps_of_entry, enough_steps}
 
 line_some : (depth : ℕ) (world : World) (bytes : List ℕ) → 1 ≤ steps_of_line depth world bytes
 line_some zero world bytes = omega arith

@@ -1,57 +1,48 @@
 -- Without a pending change, lines merge independently of those before them, and file numbers don't matter.
-use Rattle.cweb_lines.proofs.Common.{OPEN_FILES, nat_lt, ◌≡◌, ◌+◌, ℕ, zero, suc, Bool, true, false, List, [], ◌∷◌, ◌++◌, None, Some, Option, refl, sym, ◌∙◌, ap, arith, length, append_assoc, AllByRecursion, Line, SourceLine, lines_in, World, Found, found_at, include_name, is_include_line, at_place, Event, Next, RawLine, MergeStateModel, Thing, at_raw, fault, emitted, included, obeyed, onto, open_include, opening, passed, past, plain, raw, raws, run_steps, seek, taking, reported, took, openings, merge, merge_next, SourceFault, NoName, NotThere, TooDeep}
+use Rattle.cweb_lines.proofs.Common.{length-append, OPEN_FILES, nat_lt, ◌≡◌, ◌+◌, ℕ, zero, suc, Bool, true, false, List, [], ◌∷◌, ◌++◌, None, Some, Option, refl, sym, ◌∙◌, ap, arith, length, append_assoc, AllByRecursion, SourceLine, lines_in, World, Found, found_at, include_name, is_include_line, at_place, Event, Next, RawLine, MergeStateModel, Thing, fault, emitted, included, obeyed, onto, open_include, opening, passed, plain, raw, raws, run_steps, seek, taking, reported, took, openings, merge, merge_next, NoName, NotThere, TooDeep}
 use Rattle.cweb_lines.proofs.Merges.{state}
+use Rattle.cweb_lines.proofs.EmittedLinesAddUp.{openings-append}
+use Rattle.cweb_lines.proofs.EnoughSteps.{onto_some}
 
--- A raw line that begins no change is emitted, is a fault, or opens a file.
-pub data Kind : Type 0 where
-  yields : Line → Kind
-  faults : SourceFault → Kind
-  opens : Found → Kind
+-- A raw line that begins no change: its events, and the lines that it opens, whatever comes after it.
+module _ (world : World) (r : RawLine) (change : List SourceLine) (files : ℕ) where
+  abbrev before : List Thing → MergeStateModel
+  before things = state (raw r ∷ things) None change files
 
-abbrev pub becomes : Kind → MergeStateModel → RawLine → List Thing → Next
-becomes (yields line) s r things = (emitted line ∷ [], past s things)
-becomes (faults f) s r things = (fault f ∷ [], past s things)
-becomes (opens found) s r things = obeyed (Some found) s r things
+  pub record Goes (next : List Thing → Next) : Type 0 where
+    pub events : List Event
+    pub lines : List SourceLine
+    pub opened : ℕ
+    pub count : opened ≡ files + length (openings events)
+    pub is : (things : List Thing) → next things
+        ≡ (events, state (raws (r.depth + 1) r.may_match lines ++ things) None change opened)
 
-abbrev pub found_kind : Option Found → RawLine → Kind
-found_kind None r = faults (at_place NotThere r.source.line.place)
-found_kind (Some found) r = opens found
+  stays : (next : List Thing → Next) (event : Event) → openings (event ∷ []) ≡ []
+      → ((things : List Thing) → next things ≡ (event ∷ [], state things None change files)) → Goes next
+  stays next event none is =
+      record { events = event ∷ []; lines = []; opened = files; count = grind arith; is = λ things. is things }
 
-abbrev pub opened_kind : Bool → World → List ℕ → RawLine → Kind
-opened_kind false world name r = faults (at_place TooDeep r.source.line.place)
-opened_kind true world name r = found_kind (found_at world name) r
+  by_found : (found : Option Found) → Goes (λ things. obeyed found (before things) r things)
+  by_found None = stays _ (fault (at_place NotThere r.source.line.place)) refl (λ things. refl)
+  by_found (Some found) = record {
+    events = opening found.0 ∷ [];
+    lines = lines_in files found.1;
+    opened = files + 1;
+    count = omega arith;
+    is = λ things. refl;
+  }
 
-abbrev pub included_kind : List ℕ → World → RawLine → Kind
-included_kind [] world r = faults (at_place NoName r.source.line.place)
-included_kind (b ∷ bs) world r = opened_kind (nat_lt r.depth OPEN_FILES) world (b ∷ bs) r
+  by_room : (b : Bool) (name : List ℕ) → Goes (λ things. open_include b world name (before things) r things)
+  by_room false name = stays _ (fault (at_place TooDeep r.source.line.place)) refl (λ things. refl)
+  by_room true name = by_found (found_at world name)
 
-abbrev pub plain_kind : Bool → World → RawLine → Kind
-plain_kind false world r = yields r.source.line
-plain_kind true world r = included_kind (include_name r.source.line.bytes) world r
+  by_name : (name : List ℕ) → Goes (λ things. included name world (before things) r things)
+  by_name [] = stays _ (fault (at_place NoName r.source.line.place)) refl (λ things. refl)
+  by_name (b ∷ bs) = by_room (nat_lt r.depth OPEN_FILES) (b ∷ bs)
 
-abbrev pub kind_of : World → RawLine → Kind
-kind_of world r = plain_kind (is_include_line r.source.line.bytes) world r
-
-module _ (world : World) (r : RawLine) (s : MergeStateModel) (things : List Thing) where
-  found_is : (found : Option Found) → obeyed found s r things ≡ becomes (found_kind found r) s r things
-  found_is None = refl
-  found_is (Some found) = refl
-
-  opened_is : (b : Bool) (name : List ℕ) → open_include b world name s r things
-      ≡ becomes (opened_kind b world name r) s r things
-  opened_is false name = refl
-  opened_is true name = found_is (found_at world name)
-
-  included_is : (name : List ℕ) → included name world s r things ≡ becomes (included_kind name world r) s r things
-  included_is [] = refl
-  included_is (b ∷ bs) = opened_is (nat_lt r.depth OPEN_FILES) (b ∷ bs)
-
-  plain_is : (b : Bool) → plain b world s r things ≡ becomes (plain_kind b world r) s r things
-  plain_is false = refl
-  plain_is true = included_is (include_name r.source.line.bytes)
-
-  pub raw_is : at_raw None world s r things ≡ becomes (kind_of world r) s r things
-  raw_is = plain_is (is_include_line r.source.line.bytes)
+  goes : (b : Bool) → Goes (λ things. plain b world (before things) r things)
+  goes false = stays _ (emitted r.source.line) refl (λ things. refl)
+  goes true = by_name (include_name r.source.line.bytes)
 
 abbrev pub IsNoSearch : Thing → Type 0
 IsNoSearch seek = ⊥
@@ -63,11 +54,6 @@ pub raws_seek_not : (depth : ℕ) (may_match : Bool) (lines : List SourceLine) (
     → AllByRecursion IsNoSearch things → AllByRecursion IsNoSearch (raws depth may_match lines ++ things)
 raws_seek_not depth may_match [] things none = none
 raws_seek_not depth may_match (line ∷ lines) things none = (tt, raws_seek_not depth may_match lines things none)
-
-pub onto_some : (events all : List Event) (later : Option (List Event)) → onto events later ≡ Some all
-    → (rest : List Event) × (later ≡ Some rest) × (events ++ rest ≡ all)
-onto_some events all None is = absurd (cc)
-onto_some events all (Some rest) is = (rest, refl, cc)
 
 -- The things in `later` merge as they do alone.
 module _ (world : World) (later : List Thing) (change : List SourceLine) where
@@ -86,26 +72,6 @@ module _ (world : World) (later : List Thing) (change : List SourceLine) where
   prefix_none files [] is = ap (λ f. coming_of f later) (omega arith)
   prefix_none files (e ∷ es) is = absurd (cc)
 
-  prefix_raw : (n : ℕ) (r : RawLine) (things : List Thing) (files : ℕ) (events : List Event)
-      → AllByRecursion IsNoSearch things → ((f : ℕ) (ts : List Thing) (es : List Event)
-      → AllByRecursion IsNoSearch ts → Runs n f ts es → Comes f ts es) → (kind : Kind) →
-      let next = becomes kind (state (raw r ∷ things) None change files) r things in
-      let next' = becomes kind (state (raw r ∷ things ++ later) None change files) r (things ++ later) in
-      onto (took r.source ∷ next.0) (run_steps n world next.1) ≡ Some events
-      → took r.source ∷ next'.0 ++ merge world next'.1 ≡ events ++ coming_of (files + length (openings events)) later
-  prefix_raw n r things files events none each (yields line) is = grind (arith, onto_some)
-  prefix_raw n r things files events none each (faults f) is = grind (arith, onto_some)
-  prefix_raw n r things files events none each (opens found) is =
-      let lines = raws (r.depth + 1) r.may_match (lines_in files found.1) in
-      let opens_it = took r.source ∷ opening found.0 ∷ [] in
-      let x = onto_some opens_it events (run_steps n world (state (lines ++ things) None change (files + 1))) is in
-      let seek_not = raws_seek_not (r.depth + 1) r.may_match (lines_in files found.1) things none in
-      let number : files + 1 + length (openings x.0) ≡ files + suc (length (openings x.0)) = omega arith in
-      ap (λ (ts : List Thing). opens_it ++ coming_of (files + 1) ts) (sym (append_assoc lines things later))
-      ∙ ap (λ (es : List Event). opens_it ++ es) (each (files + 1) (lines ++ things) x.0 seek_not x.1)
-      ∙ ap (λ f. opens_it ++ (x.0 ++ coming_of f later)) number
-      ∙ ap (λ (es : List Event). es ++ coming_of (files + length (openings es)) later) x.2
-
   pub prefix : (n files : ℕ) (things : List Thing) (events : List Event) → AllByRecursion IsNoSearch things
       → Runs n files things events → Comes files things events
   prefix zero files things events none is = absurd (cc)
@@ -122,11 +88,19 @@ module _ (world : World) (later : List Thing) (change : List SourceLine) where
       ∙ ap (λ (es : List Event). took line ∷ es) (prefix n files things x.0 none.1 x.1)
       ∙ ap (λ (es : List Event). es ++ coming_of (files + length (openings es)) later) x.2
   prefix (suc n) files (raw r ∷ things) events none is =
-      let s = state (raw r ∷ things) None change files in
-      let s' = state (raw r ∷ things ++ later) None change files in
-      let same = ap (λ (next : Next). onto (took r.source ∷ next.0) (run_steps n world next.1))
-      (raw_is world r s things) in
-      merge_next world s' (taking r.source (becomes (kind_of world r) s' r (things ++ later)))
-      (ap (λ (next : Next). Some (taking r.source next)) (raw_is world r s' (things ++ later)))
-      ∙ prefix_raw n r things files events none.1
-      (λ f ts es no i. prefix n f ts es no i) (kind_of world r) (sym same ∙ is)
+      let g = goes world r change files (is_include_line r.source.line.bytes) in
+      let lines = raws (r.depth + 1) r.may_match g.lines in
+      let first = took r.source ∷ g.events in
+      let x = onto_some first events (run_steps n world (state (lines ++ things) None change g.opened))
+      (sym (ap (λ (next : Next). onto (took r.source ∷ next.0) (run_steps n world next.1)) (g.is things)) ∙ is) in
+      let number : g.opened + length (openings x.0) ≡ files + length (openings (first ++ x.0)) =
+      omega
+      (arith, g.count, ap length (openings-append g.events x.0), length-append (openings g.events) (openings x.0)) in
+      merge_next world (state (raw r ∷ things ++ later) None change files) _
+      (ap (λ (next : Next). Some (taking r.source next)) (g.is (things ++ later)))
+      ∙ ap (λ (ts : List Thing). first ++ coming_of g.opened ts) (sym (append_assoc lines things later))
+      ∙ ap (λ (es : List Event). first ++ es)
+      (prefix n g.opened (lines ++ things) x.0 (raws_seek_not (r.depth + 1) r.may_match g.lines things none.1) x.1)
+      ∙ ap (λ f. first ++ (x.0 ++ coming_of f later)) number
+      ∙ sym (append_assoc first x.0 (coming_of (files + length (openings (first ++ x.0))) later))
+      ∙ ap (λ (es : List Event). es ++ coming_of (files + length (openings es)) later) x.2

@@ -1,8 +1,7 @@
 -- Worked examples of the laws: their premises can be met.
-use Rattle.cweb_lines.proofs.Common.{◌≡◌, true, false, List, [], ◌∷◌, ◌++◌, Option, Some, None, refl, cond, codes, option_map, bytes_eq, AllByRecursion, list_any, lines, lines_in, World, is_include_line, Includes, IsPlainSplice, Splice, is_change_code, spliced, web_lines, MergeOutcome, only_lines, placed, outcome_of_events, Event, raws, run_steps, started, written_lines, NoMatch, NoName}
+use Rattle.cweb_lines.proofs.Common.{◌≡◌, true, false, List, [], ◌∷◌, ◌++◌, Option, Some, None, refl, cond, codes, option_map, bytes_eq, list_any, lines, lines_in, World, is_include_line, Includes, is_change_code, MergeOutcome, only_lines, placed, outcome_of_events, Event, raws, run_steps, started, written_lines, NoMatch, NoName}
 use Rattle.std.specs.Str.{is_utf8, chars}
 use lib.Utf8.{encode}
-use Rattle.cweb_lines.specs.laws.Laws.{spliced_change_lines}
 
 abbrev seen_by : Option (List Event) → Option MergeOutcome
 seen_by None = None
@@ -34,63 +33,6 @@ before_and_after = record {
   included = codes "b" ∷ [];
 }
 
--- A change of two lines, the second an include line, and one that only deletes a line.
-abbrev two_changes : List Splice
-two_changes =
-    record {
-      stays = codes "A" ∷ [];
-      first = codes "B";
-      further = codes "@i gone" ∷ [];
-      comment = codes "why" ∷ [];
-      begin = codes "@x that";
-      middle = codes "@y";
-      new = codes "b" ∷ codes "bb" ∷ [];
-      end = codes "@z";
-    }
-    ∷ record {
-      stays = [];
-      first = codes "C";
-      further = [];
-      comment = [];
-      begin = codes "@X";
-      middle =
-          codes "@Y";
-      new = [];
-      end = codes "@Z";
-    }
-    ∷ []
-
-they_are_plain : AllByRecursion IsPlainSplice two_changes
-they_are_plain = (
-  record {
-    begins = refl;
-    turns = refl;
-    ends = refl;
-    comment = refl;
-    old = refl;
-    new = refl;
-    some = λ is. cc;
-    first_there = refl;
-    stays_plain = refl;
-    new_plain = refl;
-  },
-  (
-    record {
-      begins = refl;
-      turns = refl;
-      ends = refl;
-      comment = refl;
-      old = refl;
-      new = refl;
-      some = λ is. cc;
-      first_there = refl;
-      stays_plain = refl;
-      new_plain = refl;
-    },
-    tt,
-  ),
-)
-
 record Computed : Type 0 where
   web_without_includes : list_any is_include_line (lines (codes "one \n\n@ two")) ≡ false
   its_own_lines : seen_by (run_steps 10 no_texts (started (codes "one \n\n@ two") None))
@@ -109,14 +51,6 @@ record Computed : Type 0 where
       (seen_by (run_steps 30 no_texts (started (codes "B\nC\n") None)))
       ≡ Some (codes "B\nC\n")
   it_is_replaced : seen_by (run_steps 20 a_file_included (started (codes "A\n@i b\nC\n") None)) ≡ Some before_and_after
-  web_of_two_changes : lines (codes "A\nB\n@i gone\nC\nD\n") ≡ web_lines two_changes (codes "D" ∷ [])
-  file_of_two_changes : lines (codes "why\n@x that\nB\n@i gone\n@y\nb\nbb\n@z\n@X\nC\n@Y\n@Z\nend")
-      ≡ spliced_change_lines two_changes (codes "end" ∷ [])
-  they_splice : seen_by (run_steps 30 no_texts (started
-      (codes "A\nB\n@i gone\nC\nD\n") (Some (codes "why\n@x that\nB\n@i gone\n@y\nb\nbb\n@z\n@X\nC\n@Y\n@Z\nend"))))
-      ≡ Some (only_lines (spliced 1 1 two_changes (codes "D" ∷ [])))
-  they_show : spliced 1 1 two_changes (codes "D" ∷ []) ≡ placed 0 1 (codes "A" ∷ []) ++ placed 1 6
-      (codes "b" ∷ codes "bb" ∷ []) ++ placed 0 5 (codes "D" ∷ [])
   -- the second entry is never reached
   entry_without_match : seen_by
       (run_steps 30 no_texts (started (codes "A\n") (Some (codes "why\n@x\nZ\n@z\n@x\nA\n@y\n@z\n"))))

@@ -1,5 +1,5 @@
 -- Adjacent lines in the buffer, and the lines of the source that they are.
-use Rattle.cweb_lines.proofs.Common.{◌≡◌, ◌≤◌, ◌<◌, ◌+◌, ◌-◌, ℕ, Bool, List, [], ◌∷◌, ◌++◌, length, map, take, drop, Option, Some, None, refl, sym, ◌∙◌, ap, arith, take-add, take-append-add, append-nil, append_assoc, append_cancel_right, drop-drop, length-append, length-map, length-take, map-append, take-take, take_all, slice_range, IfSome, WaitingEntry, SplitsAt, CutLine, numbered_lines, cut_lines, trimmed, AllPassThrough, HasRoomFor, IsStretch, OnlyLastExceeds, PassesThrough, Reaches, IsStretchOf, line_with_newline, trimmed_with_newlines, sources_next, with_newlines, all_but_last, buffered, lines_at, TakenCounters, LINES, BYTES, Stretch, OpenSource}
+use Rattle.cweb_lines.proofs.Common.{◌≡◌, ◌≤◌, ◌<◌, ◌+◌, ◌-◌, ℕ, Bool, List, [], ◌∷◌, ◌++◌, length, map, take, drop, Option, Some, None, refl, sym, ◌∙◌, ap, arith, take-add, take-append-add, append-nil, append_assoc, append_cancel_right, drop-drop, length-append, length-map, length-take, map-append, take-take, take_all, slice_range, IfSome, WaitingEntry, SplitsAt, CutLine, numbered_lines, cut_lines, trimmed, AllByRecursion, PassesThrough, HasRoomFor, IsStretch, OnlyLastExceeds, Reaches, IsStretchOf, line_with_newline, trimmed_with_newlines, sources_next, with_newlines, all_but_last, buffered, lines_at, TakenCounters, LINES, BYTES, Stretch, OpenSource}
 use Rattle.cweb_lines.proofs.Newlines.{after_newline, text_lines-full}
 
 pub standing-append : (a b : List (List ℕ)) → with_newlines (a ++ b) ≡ with_newlines a ++ with_newlines b
@@ -14,15 +14,15 @@ pub all_but_last-append : {A : Type 0} (a b : List A) → 0 < length b → all_b
 all_but_last-append a b some = grind (arith, length-append a b, some, take-append-add a b (length b - 1))
 
 -- One line after others that have fewer bytes.
-within_before : (room : ℕ) (a b : List (List ℕ)) → length b ≡ 1 → length (with_newlines a) < room
+pub within_before : (room : ℕ) (a b : List (List ℕ)) → length b ≡ 1 → length (with_newlines a) < room
     → OnlyLastExceeds room (a ++ b)
 within_before room a (line ∷ []) one few = grind (arith, all_but_last-append, append-nil)
 within_before room a [] one few = absurd (omega (arith, one))
 within_before room a (line ∷ other ∷ b) one few = absurd (omega (arith, one))
 
 passing-append : (entry : Option WaitingEntry) (may_match : Bool) (a b : List (List ℕ))
-    → AllPassThrough entry may_match a
-    → AllPassThrough entry may_match b → AllPassThrough entry may_match (a ++ b)
+    → AllByRecursion (PassesThrough entry may_match) a
+    → AllByRecursion (PassesThrough entry may_match) b → AllByRecursion (PassesThrough entry may_match) (a ++ b)
 passing-append entry may_match [] b first then = then
 passing-append entry may_match (line ∷ a) b first then = (first.0, passing-append entry may_match a b first.1 then)
 
@@ -104,39 +104,17 @@ pub few_lines : (lines : List (List ℕ)) → length lines ≤ length (with_newl
 few_lines [] = omega arith
 few_lines (line ∷ lines) = omega (arith, few_lines lines, length-append line (10 ∷ with_newlines lines))
 
-pub lines_within : {entry : Option WaitingEntry} {may_match : Bool} {buffer : List ℕ} {start end : ℕ} {s : Stretch}
-    → Reaches entry may_match buffer start end s → start + s.lines ≤ s.end
-lines_within reaches = omega (arith, reaches.1.lines, reaches.1.size, few_lines reaches.0)
-
--- One more line is added while they have fewer than `room` bytes.
-pub reaches_more : {entry : Option WaitingEntry} {may_match : Bool} {buffer : List ℕ} {start end : ℕ} (room : ℕ)
-    (s t u : Stretch) → Reaches entry may_match buffer start end s → s.text + 1 ≡ s.end
-    → Reaches entry may_match buffer s.end end t → t.lines ≡ 1 → s.end - start < room
-    → u.text ≡ t.text → u.end ≡ t.end → u.lines ≡ s.lines + t.lines
-    → (found : Reaches entry may_match buffer start end u) × OnlyLastExceeds room found.0
-reaches_more {entry = e} {may_match = m} {buffer = buffer} {start = start} room s t u first whole then one few text ends
-    lines = (
-      (
-        first.0 ++ then.0,
-        joined e m buffer start s t u first.0 then.0 first.1 whole then.1 text ends lines,
-        omega (arith, ends, then.2),
-      ),
-      within_before room first.0 then.0 (omega (arith, then.1.lines, one)) (omega (arith, first.1.size, few)),
-    )
-
-pub in_place_of : {R : Type 0} (entry : Option WaitingEntry) (text : OpenSource R) (limits : TakenCounters)
-    (next : Option Stretch) (room : ℕ)
+pub first_place : {R : Type 0} (entry : Option WaitingEntry) (text : OpenSource R) (limits : TakenCounters)
+    (next : Option Stretch)
     → limits.lines + (text.source.end - text.source.start) ≤ LINES
     → limits.bytes + (text.source.end - text.source.start) ≤ BYTES
-    → IfSome next (λ s. (found : Reaches entry text.may_match text.source.buffer.items text.source.start text.source.end
-    s) × OnlyLastExceeds room found.0)
-    → IfSome next (λ s. (lines : List (List ℕ)) × IsStretchOf entry text s lines × HasRoomFor limits lines
-    × OnlyLastExceeds room lines)
-in_place_of entry text limits None room few small found = tt
-in_place_of entry text limits (Some s) room few small found = grind (arith, few_lines)
+    → IfSome next (λ s. Reaches entry text.may_match text.source.buffer.items text.source.start text.source.end s)
+    → IfSome next (λ s. (lines : List (List ℕ)) × IsStretchOf entry text s lines × HasRoomFor limits lines)
+first_place entry text limits None few small found = tt
+first_place entry text limits (Some s) few small found = grind (arith, few_lines)
 
 text_lines-standing : (entry : Option WaitingEntry) (may_match : Bool) (lines : List (List ℕ)) (rest : List ℕ)
-    → AllPassThrough entry may_match lines
+    → AllByRecursion (PassesThrough entry may_match) lines
     → cut_lines (with_newlines lines ++ rest) ≡ map line_with_newline lines ++ cut_lines rest
 text_lines-standing entry may_match [] rest passing = refl
 text_lines-standing entry may_match (line ∷ lines) rest passing =

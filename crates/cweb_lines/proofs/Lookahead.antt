@@ -1,5 +1,5 @@
 -- Lookahead at consecutive lines in the buffer.
-use Rattle.cweb_lines.proofs.Common.{rules, ◌≡◌, ◌≤◌, ◌<◌, ◌+◌, ℕ, List, [], ◌∷◌, ◌++◌, length, map, Option, None, Some, refl, ◌∙◌, ap, arith, append_cancel_right, length-append, length-map, map-append, slice_range, IfSome, Place, FitsLimits, FitsLimitsAt, IsAhead, LooksAhead, LooksAheadIn, WaitingEntry, BorrowsLines, line_span_at, Line, SourceLine, numbered_lines, trimmed, pending_of, so_far_of, ComesNext, EmitsBufferedLines, HasRoomFor, IsStretch, Reaches, IsStretchAt, IsStretchOf, OnlyLastExceeds, line_with_newline, lines_next, top_of, IsSettled, floor_of, TakenCounters, LINES, Ahead, LineSpan, Stretch, MergeState, OpenSource, common_steps}
+use Rattle.cweb_lines.proofs.Common.{rules, subst, sym, ◌≡◌, ◌≤◌, ◌<◌, ◌+◌, ℕ, List, [], ◌∷◌, ◌++◌, length, map, Option, None, Some, refl, ◌∙◌, ap, arith, append_cancel_right, length-append, length-map, map-append, slice_range, IfSome, Place, FitsLimits, FitsLimitsAt, IsAhead, LooksAhead, LooksAheadIn, WaitingEntry, BorrowsLines, line_span_at, Line, SourceLine, numbered_lines, trimmed, pending_of, pending_in, so_far_of, ComesNext, EmitsBufferedLines, HasRoomFor, IsStretch, Reaches, IsStretchAt, IsStretchOf, line_with_newline, lines_next, top_of, IsSettled, floor_of, TakenCounters, LINES, Ahead, LineSpan, Stretch, MergeState, OpenSource, common_steps}
 use Rattle.cweb_lines.proofs.ReportsOnlyGrow.{grows_reported, reported_emitted, reported_then}
 use Rattle.cweb_lines.proofs.SourceStacks.{most_at}
 use Rattle.cweb_lines.proofs.LinesInBuffer.{few_lines, joined, numbered-append}
@@ -36,12 +36,12 @@ module _ {R : Type 0} (entry : Option WaitingEntry) (text : OpenSource R) (lines
 
 pub looks_first : {R : Type 0} (entry : Option WaitingEntry) (slot : Option (OpenSource R)) (s : Stretch)
     (line : LineSpan)
-    (lines : List (List ℕ)) → IsStretchAt entry slot s lines → OnlyLastExceeds 0 lines → Some line ≡ line_span_at slot s
+    (lines : List (List ℕ)) → IsStretchAt entry slot s lines → s.lines ≡ 1 → Some line ≡ line_span_at slot s
     → LooksAheadIn entry slot [] (record { line = line; stretch = s })
-looks_first entry None s line lines in_place within is = absurd in_place
-looks_first entry (Some text) s line [] in_place within is = grind arith
-looks_first entry (Some text) s line (raw ∷ more ∷ lines) in_place within is = grind arith
-looks_first entry (Some text) s line (raw ∷ []) in_place within is = grind (arith, common_steps, looks_one)
+looks_first entry None s line lines in_place one is = absurd in_place
+looks_first entry (Some text) s line [] in_place one is = grind arith
+looks_first entry (Some text) s line (raw ∷ more ∷ lines) in_place one is = grind arith
+looks_first entry (Some text) s line (raw ∷ []) in_place one is = grind (arith, common_steps, looks_one)
 
 pub looks_after : {R : Type 0} (entry : Option WaitingEntry) (text : OpenSource R) (before next all : Stretch)
     (lines : List (List ℕ)) → IsStretchOf entry text before lines → before.text + 1 ≡ before.end
@@ -110,6 +110,21 @@ pub looks_next : {R : Type 0} (run : MergeState R) (slot : Option (OpenSource R)
     → IfSome next (λ ahead. (lines : List (List ℕ)) → ComesNext run before lines → LooksAhead run lines ahead)
 looks_next run slot before None same fits looks = tt
 looks_next run slot before (Some ahead) same fits looks = grind (arith, looks_at)
+
+-- The same for lines of an open source.
+module _ {R : Type 0} (run : MergeState R) (text : OpenSource R) (before : Stretch) (lines : List (List ℕ))
+    (top : top_of run.stack ≡ Some text) (comes : ComesNext run before lines) where
+  pub in_source : IsStretchOf (pending_of run) text before lines
+  in_source = subst (λ slot. IsStretchAt (pending_of run) slot before lines) top comes.in_place
+
+  pub looks_on : (next : Ahead) (first : List ℕ) → first ≡ run.first.items → FitsLimitsAt run.limits (top_of run.stack)
+      → (IsStretchOf (pending_in run.stage first) text before lines
+      → LooksAheadIn (pending_in run.stage first) (Some text) lines next)
+      → LooksAhead run lines next
+  looks_on next first is fits looks = looks_at run lines next comes.settled comes.above fits
+      (subst (λ slot. LooksAheadIn (pending_of run) slot lines next) (sym top)
+      (subst (λ (f : List ℕ). LooksAheadIn (pending_in run.stage f) (Some text) lines next) is
+      (looks (subst (λ (f : List ℕ). IsStretchOf (pending_in run.stage f) text before lines) (sym is) in_source))))
 
 pub is_ahead : {R : Type 0} (run : MergeState R) (before : List (List ℕ)) (ahead : Ahead)
     → FitsLimitsAt run.limits (top_of run.stack) → LooksAhead run before ahead → IsAhead run ahead

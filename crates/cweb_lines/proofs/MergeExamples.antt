@@ -151,6 +151,14 @@ record Computed : Type 0 where
         names =
             codes "inc.w" ∷ [];
       })
+  -- a change of two lines, the second an include line, and one that only deletes a line
+  two_changes : outcome_of (run_steps 30 no_texts (started (codes "A\nB\n@i gone\nC\nD\n")
+      (Some (codes "why\n@x that\nB\n@i gone\n@y\nb\nbb\n@z\n@X\nC\n@Y\n@Z\nend"))))
+      ≡ Some (record {
+        lines = line (codes "A") 0 1 ∷ line (codes "b") 1 6 ∷ line (codes "bb") 1 7 ∷ line (codes "D") 0 5 ∷ [];
+        faults = [];
+        names = [];
+      })
   -- the limits
   longest : LINE_LENGTH ≡ 1048575
   most_lines : LINES ≡ 16777216

@@ -1,14 +1,11 @@
 -- Calls that may read, one after another. Each but the last has read without a fault, so the shelf is as before.
-use Rattle.cweb_lines.proofs.Common.{rules, ◌≡◌, ◌∙◌, ◌++◌, ℕ, List, [], Some, refl, sym, ap, so_far_of, opened_file_names, Memory, OnlyReports, SourceFault, MergeState, AppendsPassedLines, AreReadersKnown, Line, LineAt, Stop, Result, Ok, Err, IfErr, arith}
-use Rattle.cweb_files.specs.Shelves.{Observed, ShelfContents, ShelfModel}
-use Rattle.cweb_files.specs.declared.place.FileId.{FileId}
+use Rattle.cweb_lines.proofs.Common.{rules, ◌≡◌, ◌∙◌, ◌++◌, ℕ, List, [], Some, refl, sym, ap, so_far_of, opened_file_names, Memory, OnlyReports, SourceFault, MergeState, AppendsPassedLines, AreReadersKnown, Line, LineAt, Stop, Result, Ok, Err, IfErr, arith, Observed, ShelfContents, ShelfModel, FileId, KeepsReported}
 use Rattle.cweb_lines.specs.surface.OpenSources.{BlamesFile, ReadsShelf, shelf_after}
 use Rattle.cweb_lines.specs.inner.StepCalls.{KeepsReaders, Obeys, Reads, outcome}
-use Rattle.cweb_lines.specs.surface.MergeProgress.{KeepsReported}
 use Rattle.cweb_lines.specs.surface.MergerCalls.{KnowsReaders, StaysKnown}
 use Rattle.cweb_lines.specs.declared.merger.Merger.{Merger}
 use Rattle.cweb_lines.proofs.ReportsOnlyGrow.{reported_after, reported_halted, reported_passed, reported_same, reported_then}
-use Rattle.cweb_lines.proofs.MergeReadersStayNamed.{knows_only}
+use Rattle.cweb_lines.proofs.ReadersStayNamed.{knows_only}
 
 -- Want of memory blames no file.
 pub unread : {R A : Type 0} (result : Result A Stop) (name : FileId → List ℕ) {old new : ShelfModel R} → new ≡ old

@@ -1,10 +1,6 @@
 -- The outcome of a list of events.
-use Rattle.cweb_lines.proofs.Common.{◌∙◌, WaitingEntry, Sought, Thing, World, merge, merge_next, seek, sought, ◌≡◌, false, ℕ, List, [], ◌∷◌, ◌++◌, map, None, Some, Option, refl, ap, is_some, Line, SourceLine, MergeOutcome, followed_by, outcome_of_events, Event, fault, emitted, opening, took, Code, SourceFault}
+use Rattle.cweb_lines.proofs.Common.{◌∙◌, WaitingEntry, Sought, Thing, World, merge, merge_next, seek, sought, ◌≡◌, ℕ, List, [], ◌∷◌, ◌++◌, map, None, Some, Option, refl, ap, Line, SourceLine, MergeOutcome, followed_by, outcome_of_events, Event, fault, emitted, opening, took, SourceFault}
 use Rattle.cweb_lines.proofs.Merges.{state}
-
-pub no_code : (code : Option Code) → is_some code ≡ false → code ≡ None
-no_code None is = refl
-no_code (Some code) is = absurd (cc)
 
 abbrev pub line_first : Line → MergeOutcome → MergeOutcome
 line_first line s = record { lines = line ∷ s.lines; faults = s.faults; included = s.included }

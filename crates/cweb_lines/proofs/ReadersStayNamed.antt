@@ -1,18 +1,21 @@
 -- Readers stay opened under the names of their files, and what is blamed.
-use Rattle.cweb_lines.proofs.Common.{◌≡◌, ◌≤◌, ◌<◌, ℕ, zero, suc, List, [], ◌∷◌, ◌++◌, Option, Some, None, refl, sym, ◌∙◌, ap, arith, length, get_or, Err, set, Stop}
-use Rattle.std.specs.Prelude.{Result, ◌+◌}
+use Rattle.cweb_lines.proofs.Common.{rules, ◌≡◌, ℕ, List, opened_file_names, AreReadersKnown, OnlyReports, MergeState, arith, ◌≤◌, ◌<◌, zero, suc, [], ◌∷◌, ◌++◌, Option, Some, None, refl, sym, ◌∙◌, ap, length, get_or, Err, set, Stop, Result, FileId, files_up_to, stop_for, maximum_of, LineFault, Read, OpenSource}
 use Rattle.std.proofs.lemmas.List.{get_or_default, get_or_append_left}
 use Rattle.std.proofs.lemmas.Option.{same_Some}
-use Rattle.cweb_files.specs.declared.place.FileId.{FileId}
 use Rattle.cweb_lines.specs.surface.OpenSources.{AreReadersNamed, IsReaderNamed, blaming, shelf_after, number_or_zero}
-use Rattle.cweb_lines.specs.inner.LineCalls.{KeepsReaderName, KeepsReaderNames}
-use Rattle.cweb_lines.specs.inner.Source.{after_reading}
+use Rattle.cweb_lines.specs.inner.LineCalls.{KeepsReaderName, KeepsReaderNames, after_reading}
 use Rattle.cweb_files.specs.Shelves.{Observed, ShelfContents, ShelfModel, failed_read}
-use Rattle.cweb_lines.specs.inner.OpenSources.{files_up_to, stop_for, maximum_of}
-use Rattle.cweb_lines.specs.declared.source.LineFault.{LineFault}
-use Rattle.cweb_lines.specs.declared.source.LineFault.TheVariants.{Read}
-use Rattle.cweb_lines.specs.declared.open_source.OpenSource.{OpenSource}
 use Rattle.cweb_lines.proofs.SourceStacks.{most_at}
+
+-- The readers of a merger stay opened under the names of their files.
+pub knows_same : {R : Type 0} (opened_as : R → List ℕ) (old new : MergeState R) → new.stack.texts ≡ old.stack.texts
+    → new.change ≡ old.change → opened_file_names new.names ≡ opened_file_names old.names
+    → AreReadersKnown opened_as old → AreReadersKnown opened_as new
+knows_same opened_as old new texts change names known = search rules
+
+pub knows_only : {R : Type 0} {opened_as : R → List ℕ} {old new : MergeState R} → OnlyReports old new
+    → AreReadersKnown opened_as old → AreReadersKnown opened_as new
+knows_only {opened_as = f} {old = old} {new = new} only known = grind (arith, knows_same)
 
 module _ {R : Type 0} (opened_as : R → List ℕ) (names : List (List ℕ)) where
   pub named_at : (texts : List (Option (OpenSource R))) (at : ℕ) (d : Option (OpenSource R)) → at < length texts

@@ -1,6 +1,6 @@
 -- The search for an entry, line by line.
 use Rattle.cweb_lines.proofs.Common.{◌≡◌, ℕ, List, [], ◌∷◌, ◌++◌, Option, Some, None, refl, sym, ◌∙◌, ap, subst, append-nil, map, Place, Sought, sought, SourceLine, Event, took, fault, reported_faults, SoFar, EmitsLines, ReadsNext, ReportsPrefix, StopsAfterLines, Stopped, Searched, SeeksTo, LooksInPart, search_after, IsOutside, FirstStops, CountsLine, SourceFault, Stage, Done, Waiting, StopsFor, Stop, ReadFault, LineTooLong, TooMuchText, Memory, arith}
-use Rattle.cweb_lines.specs.inner.ChangeProgress.{LooksAt}
+use Rattle.cweb_lines.specs.inner.MergeProgress.{LooksAt}
 use Rattle.cweb_lines.specs.declared.change.seek.Look.TheVariants.{Entry as first_line, On as goes_on}
 use Rattle.cweb_lines.proofs.AddedEvents.{takes_one, reports, reports_some}
 use Rattle.cweb_lines.proofs.EmittedLinesAddUp.{yields_both}

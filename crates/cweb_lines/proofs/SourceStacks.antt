@@ -1,17 +1,8 @@
 -- The stack of open sources in an array.
-use Rattle.cweb_lines.proofs.Common.{Bool, nat_tests, append_assoc, ◌≡◌, ◌≢◌, ◌≤◌, ◌<◌, ◌+◌, ◌-◌, ℕ, zero, suc, List, [], ◌∷◌, ◌++◌, Option, Some, None, refl, sym, ◌∙◌, ap, subst, arith, length, get_or, Stop}
-use Rattle.std.proofs.Common.{set, get_or-set_same, get_or-set_other}
-use Rattle.std.proofs.Math.Nat.{le-max_left, le-max_right, max-le}
-use Rattle.std.proofs.lemmas.List.{get_or_default}
-use Rattle.cweb_lines.specs.Lines.{SourceLine, Thing, raw, raws}
-use Rattle.cweb_lines.specs.OpenSources.{TakenCountersModel}
+use Rattle.cweb_lines.proofs.Common.{Bool, nat_tests, append_assoc, ◌≡◌, ◌≢◌, ◌≤◌, ◌<◌, ◌+◌, ◌-◌, ℕ, zero, suc, List, [], ◌∷◌, ◌++◌, Option, Some, None, refl, sym, ◌∙◌, ap, subst, arith, length, get_or, Stop, set, get_or-set_same, get_or-set_other, le-max_left, le-max_right, max-le, get_or_default, SourceLine, Thing, raw, raws, TakenCountersModel, Stack, ReadFault, LineTooLong, TooMuchText, Memory, LineAt, OpenSource}
 use Rattle.cweb_lines.specs.surface.OpenSources.{things_at, things_over, matches_at, source_depth, lines_at, number_or_zero, StopsFor}
 use Rattle.cweb_lines.specs.inner.OpenSources.{DeepAt, StaysBelow, Pushes, TakesNextLine, TakesFirst, FirstStops, TopStops, AreDeep, files_up_to, line_number, line_number_at, maximum_of, gaps_from}
 use Rattle.cweb_lines.specs.inner.LineCalls.{KeepsStack}
-use Rattle.cweb_lines.specs.declared.open_source.stack.Stack.{Stack}
-use Rattle.cweb_lines.specs.declared.stop.Stop.TheVariants.{ReadFault, LineTooLong, TooMuchText, Memory}
-use Rattle.cweb_lines.specs.declared.open_source.LineAt.{LineAt}
-use Rattle.cweb_lines.specs.declared.open_source.OpenSource.{OpenSource}
 
 pub most_at : {R : Type 0} (number : OpenSource R → ℕ) (texts : List (Option (OpenSource R))) (at : ℕ) →
     number_or_zero number (get_or texts at None) ≤ maximum_of number texts

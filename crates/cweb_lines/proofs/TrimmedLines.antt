@@ -1,20 +1,10 @@
 -- Trimmed lines, and what taking a line leaves.
-use Rattle.cweb_lines.proofs.Common.{Bool, ◌≡◌, ◌≢◌, ◌+◌, ◌≤◌, ℕ, true, false, cond, List, [], ◌∷◌, ◌++◌, refl, sym, ◌∙◌, ap, subst, arith, ◌<◌, length, get_or, take, Some, HasNoNewline, cut_lines, TakesRawLine, IsLongerThan, LINE_LENGTH, TooLong, Full, Stop}
-use Rattle.std.proofs.Common.{◌⊎◌}
+use Rattle.cweb_lines.proofs.Common.{Bool, ◌≡◌, ◌≢◌, ◌+◌, ◌≤◌, ℕ, true, false, cond, List, [], ◌∷◌, ◌++◌, refl, sym, ◌∙◌, ap, subst, arith, ◌<◌, length, get_or, take, Some, HasNoNewline, cut_lines, TakesRawLine, IsLongerThan, LINE_LENGTH, TooLong, Full, Stop, ◌⊎◌, FileId, SourceLine, trimmed, before_blanks, is_blank, numbered_lines, IsOneLine, TakenCountersModel, buffered, StopsFor, StopsReading, OpenSource, LINES, BYTES, LineFault, LineTooLong, TooMuchText}
 use Rattle.std.proofs.lemmas.List.{take_more}
-use Rattle.cweb_files.specs.declared.place.FileId.{FileId}
-use Rattle.cweb_lines.specs.Lines.{SourceLine, trimmed, before_blanks, is_blank, numbered_lines}
-use Rattle.cweb_lines.specs.surface.OpenedFileNames.{IsOneLine, HasNoNewline}
-use Rattle.cweb_lines.specs.OpenSources.{TakenCountersModel}
 use Rattle.cweb_lines.specs.inner.OpenSources.{TakesNextLine, FirstStops, NeedsRead, newline_bytes, stop_for}
-use Rattle.cweb_lines.specs.surface.OpenSources.{buffered, StopsFor, StopsReading}
-use Rattle.cweb_lines.specs.declared.open_source.OpenSource.{OpenSource}
-use Rattle.cweb_lines.specs.declared.limits.TheConstants.{LINES, BYTES}
-use Rattle.cweb_lines.specs.declared.source.LineFault.{LineFault}
 use Rattle.cweb_lines.specs.declared.source.LineFault.TheVariants.{Read, Memory as NoMemory}
 use Rattle.cweb_lines.specs.declared.source.LineTermination.{LineTermination}
 use Rattle.cweb_lines.specs.declared.source.LineTermination.TheVariants.{Last, Ended}
-use Rattle.cweb_lines.specs.declared.stop.Stop.TheVariants.{LineTooLong, TooMuchText}
 use Rattle.cweb_lines.proofs.Newlines.{text_lines-full, text_lines-last, longer_first}
 
 pub trimmed-blank : (xs : List ℕ) (b : ℕ) → is_blank b ≡ true → trimmed (xs ++ b ∷ []) ≡ trimmed xs

@@ -1,6 +1,5 @@
 -- The written lines of consecutive calls are concatenated.
-use Rattle.cweb_lines.proofs.Common.{rules, ◌≡◌, ◌<◌, ◌+◌, ℕ, List, [], ◌∷◌, ◌++◌, length, refl, ap, length-append, append-nil, append_assoc, FailsWithin, SinkModel, Writes, written, Line, Event, SoFar, EmitsLines, Stopped, StopsAfterLines, ReportsPrefix, emitted_lines, written_lines, all_but_last, WritesPrefix, WritesAll, WritesSome, WritesUpTo, HasWritten, StopsWriting, Stop, ReadFault, LineTooLong, TooMuchText, Memory, arith}
-use Rattle.cweb_files.proofs.Appending.{fails_then, written_none}
+use Rattle.cweb_lines.proofs.Common.{rules, ◌≡◌, ◌<◌, ◌+◌, ℕ, List, [], ◌∷◌, ◌++◌, length, refl, ap, length-append, append-nil, append_assoc, FailsWithin, SinkModel, Writes, written, Line, Event, SoFar, EmitsLines, Stopped, StopsAfterLines, ReportsPrefix, emitted_lines, written_lines, all_but_last, WritesPrefix, WritesAll, WritesSome, WritesUpTo, HasWritten, StopsWriting, Stop, ReadFault, LineTooLong, TooMuchText, Memory, arith, fails_then, written_none}
 use Rattle.cweb_lines.proofs.LinesInBuffer.{all_but_last-append}
 use Rattle.cweb_lines.proofs.EmittedLinesAddUp.{emitted-append, reported-append, openings-append, yields_both, after_both, reads_both}
 

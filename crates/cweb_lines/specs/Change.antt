@@ -1,15 +1,13 @@
 -- Change files: entries of old and new lines between the code lines @x, @y and @z.
 use Rattle.std.specs.Prelude.{ℕ, ◌+◌, Bool, true, false, ◌||◌, ◌==◌, List, [], ◌∷◌, Option, None, Some, if◌then◌else◌}
 use Rattle.std.specs.Str.{bytes_eq}
-use Rattle.cweb_files.specs.declared.place.Place.{Place}
-use Rattle.cweb_lines.specs.Lines.{Line, SourceLine, Thing, raw}
-use Rattle.cweb_lines.specs.Events.{Event, took, fault}
+use Rattle.cweb_lines.specs.Lines.{Place, Line, SourceLine, Thing, raw}
+use Rattle.cweb_lines.specs.Events.{Event, took, fault, SourceFault}
 use Rattle.cweb_lines.specs.declared.change.code.Code.{Code}
 use Rattle.cweb_lines.specs.declared.change.code.Code.TheVariants.{OldSide as old_side, NewSide as new_side}
 use Rattle.cweb_lines.specs.declared.change.code.Code.TheVariants.{EndSide as end_side}
 use Rattle.cweb_lines.specs.declared.fault.SourceKind.{SourceKind}
 use Rattle.cweb_lines.specs.declared.fault.SourceKind.TheVariants.{MissingX, NoOldLines, WantsY}
-use Rattle.cweb_lines.specs.declared.fault.SourceFault.{SourceFault}
 
 -- `x`, `y` or `z` in either case.
 abbrev pub letter_code : ℕ → Option Code

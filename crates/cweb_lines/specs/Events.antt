@@ -3,8 +3,8 @@ use Rattle.std.specs.Prelude.{◌≡◌, ℕ, ◌+◌, ◌≤◌, List, [], ◌�
 use Rattle.cweb_lines.specs.OpenSources.{TakenCountersModel, RefusesLine}
 use Rattle.cweb_lines.specs.declared.stop.Stop.{Stop}
 use Rattle.cweb_lines.specs.Lines.{Line, SourceLine}
-use Rattle.cweb_lines.specs.declared.fault.SourceFault.{SourceFault}
-use Rattle.cweb_lines.specs.declared.limits.TheConstants.{LINES, BYTES, LINE_LENGTH}
+pub use Rattle.cweb_lines.specs.declared.fault.SourceFault.{SourceFault}
+pub use Rattle.cweb_lines.specs.declared.limits.TheConstants.{LINES, BYTES, LINE_LENGTH, OPEN_FILES}
 
 -- An event: a line is taken from its file, a merged line is emitted, a fault is reported, or a file is opened.
 pub data Event : Type 0 where

@@ -1,6 +1,6 @@
 -- The lines of a file, and what a merge still has to process.
 use Rattle.std.specs.Prelude.{ℕ, ◌+◌, Bool, ◌||◌, ◌==◌, List, [], ◌∷◌, length, if◌then◌else◌}
-use Rattle.cweb_files.specs.declared.place.Place.{Place}
+pub use Rattle.cweb_files.specs.declared.place.Place.{Place}
 use Rattle.cweb_lines.specs.declared.fault.SourceFault.{SourceFault}
 
 -- A raw line: its bytes without the newline, and its size with the newline, if it has one.

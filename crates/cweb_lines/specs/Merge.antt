@@ -2,17 +2,14 @@
 use Rattle.std.specs.Prelude.{◌≡◌, ℕ, zero, suc, ◌+◌, Bool, true, false, ◌&&◌, nat_lt, List, [], ◌∷◌, ◌++◌, map, Option}
 use Rattle.std.specs.Prelude.{None, Some, if◌then◌else◌}
 use Rattle.std.specs.Str.{bytes_eq}
-use Rattle.cweb_files.specs.declared.place.Place.{Place}
-use Rattle.cweb_lines.specs.Lines.{SourceLine, lines_in, RawLine, Thing, seek, raw, reported, passed, raws}
+use Rattle.cweb_lines.specs.Lines.{Place, SourceLine, lines_in, RawLine, Thing, seek, raw, reported, passed, raws}
 use Rattle.cweb_lines.specs.Include.{World, Found, is_include_line, include_name, found_at}
 use Rattle.cweb_lines.specs.Change.{change_code, at_place, WaitingEntry, sought, OldSide, old_lines}
-use Rattle.cweb_lines.specs.Events.{Event, took, emitted, fault, opening}
-use Rattle.cweb_lines.specs.declared.limits.TheConstants.{OPEN_FILES}
+use Rattle.cweb_lines.specs.Events.{Event, took, emitted, fault, opening, SourceFault, OPEN_FILES}
 use Rattle.cweb_lines.specs.declared.change.code.Code.{Code}
 use Rattle.cweb_lines.specs.declared.change.code.Code.TheVariants.{EndSide as end_side}
 use Rattle.cweb_lines.specs.declared.fault.SourceKind.TheVariants.{NoName, TooDeep, NotThere, EndedBeforeY, WebEnded}
 use Rattle.cweb_lines.specs.declared.fault.SourceKind.TheVariants.{Unequal, WantsZ, EndedBeforeZ, NoMatch}
-use Rattle.cweb_lines.specs.declared.fault.SourceFault.{SourceFault}
 
 -- The state of a merge.
 pub record MergeStateModel : Type 0 where

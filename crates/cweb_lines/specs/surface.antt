@@ -4,4 +4,3 @@ pub mod OpenedFileNames
 pub mod Writing
 pub mod MergerCalls
 pub mod MergeProgress
-pub mod EnoughSteps

@@ -1,8 +1,7 @@
 // How much was taken from all files.
 ghost use Rattle.std.specs.Prelude.{◌≡◌, ◌≤◌, ◌<◌, ◌+◌, ◌⊎◌, IsTrue, IfErr, OnOk, OnErr};
 
-use crate::limits::{BYTES, LINES};
-use crate::stop::Stop;
+use crate::{BYTES, LINES, Stop};
 
 /// The number of lines and bytes that were taken from all files so far, newlines included.
 #[derive(Drop)]
@@ -30,10 +29,7 @@ impl TakenCounters {
         ensures stop { IfErr result (λ stop. stop ≡ Stop.TooMuchText) }
         ensures passed { OnErr result ((self.old.lines ≡ LINES) ⊎ (BYTES < self.old.bytes + size)) }
     {
-        if size as u64 > BYTES - self.bytes {
-            return Err(Stop::TooMuchText);
-        }
-        if self.lines == LINES {
+        if size as u64 > BYTES - self.bytes || self.lines == LINES {
             return Err(Stop::TooMuchText);
         }
         self.lines += 1;

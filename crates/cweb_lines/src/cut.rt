@@ -3,8 +3,8 @@ ghost use Rattle.std.specs.Prelude.{◌≡◌, ◌≤◌, ◌<◌, ◌+◌, ◌^
 ghost use Rattle.cweb_files.specs.Shelves.{Observed};
 ghost use Rattle.cweb_lines.specs.surface.OpenedFileNames.{HasNoNewline};
 ghost use Rattle.cweb_lines.specs.inner.Finding.{IsNewlineAt, byte_before};
-ghost use Rattle.cweb_lines.specs.inner.Source.{bytes_left, TakesRawLine, IsLongerThan};
-ghost use Rattle.cweb_lines.specs.inner.Source.{FailsInLine, ReadsSource, TakesFromBuffer};
+ghost use Rattle.cweb_lines.specs.inner.LineCalls.{bytes_left, TakesRawLine, IsLongerThan};
+ghost use Rattle.cweb_lines.specs.inner.LineCalls.{FailsInLine, ReadsSource, TakesFromBuffer};
 ghost use Rattle.cweb_lines.specs.surface.OpenSources.{buffered};
 
 use crate::limits::LINE_LENGTH;
@@ -38,10 +38,8 @@ pub fn newline_at(bytes: &[u8]) -> Option<usize>
         }
         rest = rest.split_at(32).1;
     }
-    match memchr(b'\n', rest) {
-        Some(at) => Some(bytes.len() - rest.len() + at),
-        None => None,
-    }
+    let at = memchr(b'\n', rest)?;
+    Some(bytes.len() - rest.len() + at)
 }
 
 // Appends bytes to a line, unless it gets too long.

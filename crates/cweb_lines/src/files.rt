@@ -36,10 +36,8 @@ impl FileNames {
         ensures err { OnErr result (opened_file_names self.new ≡ opened_file_names self.old) }
         ensures memory { IfErr result (λ stop. stop ≡ Stop.Memory) }
     {
-        match self.names.push(name) {
-            Ok(()) => Ok(()),
-            Err(e) => Err(AllocError::from(e).into()),
-        }
+        self.names.push(name).map_err(|e| AllocError::from(e))?;
+        Ok(())
     }
 
     /// The number of opened files. Each `FileId` is below it.

@@ -1,9 +1,7 @@
 //! What holds of every merge. These functions do nothing and exist for their contracts.
 
-ghost use Rattle.cweb_lines.specs.laws.Laws.{ChangesSplice, UnmatchedEntriesAreReported};
-ghost use Rattle.cweb_lines.specs.laws.Laws.{IncludeLinesAreReplaced, LinesComeApart};
-ghost use Rattle.cweb_lines.specs.laws.Laws.{WebsWithoutIncludesAreTheirOwnLines};
-ghost use Rattle.cweb_lines.specs.laws.MergeOutcome.{HasOneAnswer};
+ghost use Rattle.cweb_lines.specs.laws.Laws.{HasOneAnswer, IncludeLinesAreReplaced, LinesComeApart};
+ghost use Rattle.cweb_lines.specs.laws.Laws.{UnmatchedEntriesAreReported, WebsWithoutIncludesAreTheirOwnLines};
 
 /// Every merge ends and has one result: any number of steps that is enough gives the same.
 pub fn merge_has_one_answer()
@@ -25,13 +23,6 @@ pub fn lines_come_apart()
 /// before and after it merge on their own. Only the depth, which is limited, and the file numbers continue.
 pub fn include_line_is_replaced()
     ensures { IncludeLinesAreReplaced }
-{}
-
-/// If all entries match in order, the merge has the lines of the web outside the changes and the new lines, each with
-/// its place, and no fault. Old lines may be include lines, which are then not obeyed. Not covered: include lines among
-/// the other lines, empty lines after `@x`, misplaced codes, and further old lines that differ from those of the web.
-pub fn changes_splice()
-    ensures { ChangesSplice }
 {}
 
 /// A first entry that matches no line of the web is reported once, at its `@x`, and changes nothing. The web has no

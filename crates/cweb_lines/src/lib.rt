@@ -6,8 +6,6 @@
 mod limits;
 // how many lines and bytes were taken
 mod counters;
-// the buffers that files are read into
-mod buffer_pool;
 // a reader and its unread buffer
 mod source;
 // the next line of a source, however reads split it

@@ -4,16 +4,13 @@ ghost use Rattle.cweb_lines.specs.surface.OpenedFileNames.{opened_file_names};
 ghost use Rattle.cweb_lines.specs.declared.limits.TheConstants.{OPEN_FILES};
 ghost use Rattle.cweb_lines.specs.inner.OpenSources.{AreDeep, maximum_of, line_number, files_up_to};
 ghost use Rattle.cweb_lines.specs.surface.OpenSources.{number_or_zero};
-ghost use Rattle.cweb_lines.specs.inner.Stages.{files_of_faults, files_of_stop, floor_of};
-ghost use Rattle.cweb_lines.specs.inner.Stages.{new_depth, files_begun};
+ghost use Rattle.cweb_lines.specs.inner.Stages.{files_of_faults, files_of_stop, floor_of, new_depth, files_begun};
 
 use crate::change::Stage;
 use crate::counters::TakenCounters;
-use crate::fault::SourceFault;
-use crate::files::FileNames;
 use crate::open_source::OpenSource;
 use crate::open_source::stack::Stack;
-use crate::stop::Stop;
+use crate::{FileNames, SourceFault, Stop};
 use std::alloc::Global;
 
 /// The state of a merger. The shelf isn't part of it.

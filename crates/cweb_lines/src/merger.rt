@@ -6,30 +6,25 @@ ghost use Rattle.cweb_files.specs.Shelves.{Observed};
 ghost use Rattle.cweb_lines.specs.Include.{web_at, change_at};
 ghost use Rattle.cweb_lines.specs.inner.Ahead.{IsSpanIn, span_bytes};
 ghost use Rattle.cweb_lines.specs.surface.OpenedFileNames.{opened_file_names};
-ghost use Rattle.cweb_lines.specs.inner.Passing.{AppendsPassedLines};
 ghost use Rattle.cweb_lines.specs.surface.OpenSources.{StartStops, files_named};
 ghost use Rattle.cweb_lines.specs.surface.MergerCalls.{AreReadersKnown};
 
 pub mod ahead;
 
 use crate::counters::TakenCounters;
-use crate::fault::SourceFault;
-use crate::files::FileNames;
-use crate::files::find::{find_change, find_web};
+use crate::files::find::{fetch_either, find_change, owned};
 use crate::merge_state::MergeState;
-use crate::open::{first_stage, open_change, open_web, owned};
+use crate::open::{first_stage, open_change, open_source};
 use crate::open_source::stack::Stack;
-use crate::passing::line_span::LineSpan;
 use crate::step::Turn;
 use crate::step::turning::take_turn;
-use crate::stop::Stop;
-use crate::writing::pass::pass_lines;
+use crate::{FileNames, LineSpan, SourceFault, Stop};
 use cweb_files::{Place, Shelf};
-use std::alloc::{AllocError, Global};
+use std::alloc::Global;
 
 /// A web that is being merged. Each call gets the shelf as the previous call left it.
 pub struct Merger<S: Shelf> {
-    run: MergeState<S::R>,
+    pub(crate) run: MergeState<S::R>,
 }
 
 impl<S: Shelf> Drop for Merger<S> {
@@ -39,10 +34,9 @@ impl<S: Shelf> Drop for Merger<S> {
 }
 
 impl<S: Shelf> Merger<S> {
-    ghost use Rattle.cweb_lines.specs.surface.MergerCalls.{to_come, so_far, stop_in, HasEnded, NextLine};
-    ghost use Rattle.cweb_lines.specs.surface.MergerCalls.{EmitsLine, Grows, LeavesMerger};
-    ghost use Rattle.cweb_lines.specs.surface.MergerCalls.{ReportsReadFailures, StopsThere, BeginsMerge};
-    ghost use Rattle.cweb_lines.specs.surface.MergerCalls.{StopsAtStart, KnowsReaders, StaysKnown};
+    ghost use Rattle.cweb_lines.specs.surface.MergerCalls.{to_come, so_far, stop_in, HasEnded, NextLine, EmitsLine};
+    ghost use Rattle.cweb_lines.specs.surface.MergerCalls.{Grows, LeavesMerger, ReportsReadFailures, StopsThere};
+    ghost use Rattle.cweb_lines.specs.surface.MergerCalls.{BeginsMerge, StopsAtStart, KnowsReaders, StaysKnown};
 
     /// Opens the web under its name, else under `second`, and the change file if one is named. It stops only if one is
     /// missing or memory is refused. It reads nothing. Included files may also be in the folder `inputs`.
@@ -70,20 +64,21 @@ impl<S: Shelf> Merger<S> {
         ensures only { IfErr result (λ stop. StartStops stop) }
     {
         let inputs = owned(alloc, inputs)?;
-        let Some(web) = find_web(alloc, shelf, web, second)? else {
+        let second = owned(alloc, second)?;
+        let Some(web) = fetch_either(shelf, String::from_str(alloc, web)?, second)? else {
             return Err(Stop::WebNotOpened);
         };
         let Some(change) = find_change(alloc, shelf, change)? else {
             return Err(Stop::ChangeNotOpened);
         };
         let mut names = FileNames::new(alloc);
-        let web = open_web(alloc, &mut names, web)?;
+        let web = open_source(alloc, &mut names, web, 1, true)?;
         let change = open_change(alloc, &mut names, change)?;
         Ok(Merger {
             run: MergeState {
                 alloc,
                 inputs,
-                stack: Stack::new(alloc, web),
+                stack: Stack::new(web),
                 stage: first_stage(&change),
                 change,
                 first: Vec::new(alloc),
@@ -180,18 +175,6 @@ impl<S: Shelf> Merger<S> {
         ensures named { IfSome result (λ stop. files_named stop ≤ length (so_far self.now).names) }
     {
         self.run.stopped
-    }
-
-    pub(crate) fn alloc(&self) -> Global {
-        self.run.alloc
-    }
-
-    /// Appends buffered lines that pass through, while `buffer` has fewer than `room` bytes.
-    pub(crate) fn pass_lines(&mut self, buffer: &mut Vec<u8>, room: usize) -> Result<(), AllocError>
-        ensures passes { AppendsPassedLines room self.old.run self.new.run buffer.old.items
-            buffer.new.items }
-    {
-        pass_lines(&mut self.run, buffer, room)
     }
 
     /// Stops the merger because memory was refused to its caller. Returns that stop, or an earlier one if it has one.

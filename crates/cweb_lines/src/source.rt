@@ -3,8 +3,10 @@ ghost use Rattle.std.specs.Prelude.{◌≡◌, ◌≤◌, ◌<◌, length, IfOk}
 ghost use Rattle.cweb_lines.specs.inner.Finding.{byte_before};
 ghost use Rattle.cweb_lines.specs.declared.source.LineFault.TheVariants.{Memory};
 
-use crate::buffer_pool::new_buffer;
 use std::alloc::{AllocError, Global};
+
+/// The size of a buffer, and so of a read, in bytes.
+const BUFFER_SIZE: usize = 65536;
 
 /// Why a line could not be taken.
 #[derive(Clone, Copy)]
@@ -60,16 +62,7 @@ impl<R: Drop> Source<R> {
         ensures reader { IfOk result (λ source. source.reader.value ≡ reader) }
         ensures pending { IfOk result (λ source. buffered source ≡ []) }
     {
-        let buffer = new_buffer(alloc)?;
-        Source::with_buffer(alloc, reader, buffer)
-    }
-
-    /// Nothing is read yet. The old contents of the buffer are never seen.
-    pub fn with_buffer(alloc: Global, reader: R, buffer: Vec<u8>) -> Result<Self, AllocError>
-        requires { 0 < length buffer.items }
-        ensures reader { IfOk result (λ source. source.reader.value ≡ reader) }
-        ensures pending { IfOk result (λ source. buffered source ≡ []) }
-    {
+        let buffer = vec![in alloc; 0; BUFFER_SIZE]?;
         Ok(Source {
             reader: Box::new(alloc, reader)?,
             buffer,
@@ -77,12 +70,5 @@ impl<R: Drop> Source<R> {
             end: 0,
             lines_end: 0,
         })
-    }
-
-    /// The buffer, for a file that is opened later.
-    pub fn into_buffer(self) -> Vec<u8>
-        ensures { result ≡ self.buffer }
-    {
-        self.buffer
     }
 }

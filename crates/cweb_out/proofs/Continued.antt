@@ -1,11 +1,12 @@
 -- Direct tokens of a macro: their output.
-use Rattle.cweb_out.proofs.Common.{arith, Left, Stored, all_tokens, map, slice_get, replaced_in, left_after_token, ◌≡◌, ◌++◌, ◌∙◌, ℕ, Bool, true, false, cond, List, [], Option, None, Some, ap, refl, list_any, Token, Word, Number, Literal, Verbatim, Punct, Blank, Newline, TokenBytesModel, first_is, is_numeric, direct_bytes, punctuator_edge, punctuator_edge_by, continued_by, edge_ends_line, left_after_edge, edge_is_apart, added, continuation_bytes, macro_by, blank_where, is_high, plain_bytes, word_bytes, is_operator}
+use Rattle.cweb_out.proofs.Common.{arith, Left, Stored, all_tokens, map, slice_get, replaced_in, left_after_token, ◌≡◌, ◌++◌, ◌∙◌, ℕ, Bool, true, false, cond, List, [], Option, None, Some, ap, refl, list_any, Token, Word, Number, Literal, Verbatim, Punct, Blank, Newline, TokenBytesModel, first_is, is_numeric, direct_bytes, punctuator_edge, continued_by, left_after_edge, edge_is_apart, added, continuation_bytes, macro_by, blank_where, is_high, plain_bytes, word_bytes, is_operator}
 use Rattle.cweb_store.specs.declared.edges.Edge.TheVariants as edge_kind
 use Rattle.cweb_out.proofs.DirectEdges.{apart-direct}
 use Rattle.cweb_out.proofs.DirectPrinting.{leaves-direct}
 use Rattle.cweb_out.proofs.Ranges.{at_index}
+use Rattle.cweb_out.proofs.Steps.{sign-goes_on}
 use Rattle.cweb_out.proofs.TokenReaderSteps.{BorrowsAt, direct-at}
-use Rattle.cweb_out.specs.inner.Classes.{token_at}
+use Rattle.cweb_out.specs.inner.Edges.{token_at}
 use Rattle.cweb_out.proofs.Bytes.{ascii_word}
 
 -- The bytes of an optional result.
@@ -18,12 +19,6 @@ word-continued : (replaced : ℕ → List ℕ) (b : List ℕ) (l : TokenBytesMod
     → word_bytes replaced b ≡ continued_by l
 word-continued replaced b l true e h = cc
 word-continued replaced b l false e h = ascii_word replaced b e ∙ ap continued_in h
-
-sign-goes_on : (s o p q : Bool) → edge_ends_line (punctuator_edge_by s o p q) ≡ false
-sign-goes_on true o false false = refl
-sign-goes_on false true false false = refl
-sign-goes_on false false false false = refl
-sign-goes_on _ _ _ _ = refl
 
 sign-continued : (b : List ℕ) (l : TokenBytesModel) (high : Bool)
     → cond high None (Some (record { string = b; edge = punctuator_edge b })) ≡ Some l → b ≡ continued_by l
@@ -48,18 +43,18 @@ module _ (w : Stored) (left : Left) (n : ℕ) (l : TokenBytesModel) (joined : le
   at : BorrowsAt (all_tokens w.parts) n l
   at = direct-at read (all_tokens w.parts) n l reads is
 
-  unjoined : left ≡ record { class = left.class; joined = false }
-  unjoined = λ i. record { class = left.class; joined = joined i }
+  unjoined : left ≡ record { last = left.last; joined = false }
+  unjoined = λ i. record { last = left.last; joined = joined i }
 
   pub direct_added : added (macro_by (replaced_in w)) left (token_at w n)
-      ≡ blank_where (edge_is_apart left.class l.edge) ++ continued_by l
+      ≡ blank_where (edge_is_apart left.last l.edge) ++ continued_by l
   direct_added = cc (
     unjoined,
     at_index w n at.token at.there,
-    apart-direct left.class at.token l at.direct,
+    apart-direct left.last at.token l at.direct,
     string-continued (replaced_in w) at.token l at.direct,
   )
 
   pub direct_leaves : left_after_token left (token_at w n) ≡ left_after_edge l.edge
   direct_leaves = (λ i. left_after_token (unjoined i) (at_index w n at.token at.there i))
-      ∙ leaves-direct left.class at.token l at.direct
+      ∙ leaves-direct left.last at.token l at.direct

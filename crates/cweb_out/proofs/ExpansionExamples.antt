@@ -1,16 +1,9 @@
 -- Worked examples of expansion and printing.
-use Rattle.cweb_out.proofs.Common.{ℕ, ◌≡◌, refl, [], ◌∷◌, ◌++◌, codes, true, false, id, Token, Word, Number, Punct, Blank, Newline, Join, Defs, Head, Tail, program, expand, IsCycle, Setting, print, file}
+use Rattle.cweb_out.proofs.Common.{ℕ, ◌≡◌, [], ◌∷◌, ◌++◌, codes, true, Token, Word, Number, Punct, Blank, Newline, Join, Defs, Head, Tail, program, expand, Setting, print, file}
 use Rattle.std.specs.Fmt.{digits}
 use Rattle.cweb_out.proofs.PlanExamples.{two, twice}
 use Rattle.cweb_store.specs.Parts.{Mark}
 use Rattle.cweb_out.specs.laws.Laws.{section_comments}
-
--- Which names use which in the law of refused cycles.
-each_uses_the_other : IsCycle two (id 0 ∷ id 1 ∷ id 0 ∷ [])
-each_uses_the_other = record { first = id 0; between = id 1 ∷ []; closed = refl; each = (refl, (refl, tt)) }
-
-a_name_that_does_not_use_itself_is_no_cycle : IsCycle two (id 0 ∷ id 0 ∷ []) → ⊥
-a_name_that_does_not_use_itself_is_no_cycle c = let used : false ≡ true = c.each.0 in cc
 
 abbrev semicolon : Token
 semicolon = Punct (codes ";")

@@ -1,9 +1,9 @@
 -- The laws of expansion and printing.
-use Rattle.cweb_out.proofs.Common.{◌≡◌, ◌≤◌, ◌+◌, ◌-◌, ◌==◌, ℕ, zero, suc, Bool, true, false, cond, List, [], ◌∷◌, ◌++◌, refl, sym, ◌∙◌, ap, arith, append_assoc, append-nil, Option, None, Some, codes, fold, flat_map, option_to_list, list_all, flat_map-append, NameId, Token, Newline, Defs, Name, Stored, joined, resolved_use, uses, use_of, ends_below, expand, expanded_name, put, option_map_or, last_is, sep, Setting, file, file_token_bytes, without_joined_layout, last_token, left_after, macro_line, macro_lines, mark_line, print, print_after, starts_line, stays_joined, Class, separator, ReplacesUses, is_no_use, print_following, is_whole_lines, and_parts}
+use Rattle.cweb_out.proofs.Common.{◌≡◌, ◌+◌, ◌-◌, ◌==◌, ℕ, zero, suc, Bool, true, false, cond, List, [], ◌∷◌, ◌++◌, refl, sym, ◌∙◌, ap, arith, append_assoc, append-nil, Option, None, Some, codes, fold, flat_map, list_all, flat_map-append, NameId, Token, Newline, Defs, Name, Stored, joined, resolved_use, expanded_name, put, option_map_or, last_is, sep, Setting, file, file_token_bytes, without_joined_layout, last_token, left_after, macro_line, macro_lines, mark_line, print, print_after, starts_line, stays_joined, Edge, separator, ReplacesUses, is_no_use, print_following, is_whole_lines}
 use Rattle.cweb_store.specs.Parts.{Mark}
-use Rattle.cweb_out.specs.declared.printer.class.Class.TheVariants as class
-use Rattle.cweb_out.proofs.Ranks.{all-append, all-parts, rank-grows, uses-weaker}
-use Rattle.cweb_out.proofs.Steps.{sep_by_class}
+use Rattle.cweb_store.specs.declared.edges.Edge.TheVariants as edge_kind
+use Rattle.cweb_out.proofs.Ranks.{all-append}
+use Rattle.cweb_out.proofs.Steps.{sep_by_edge}
 
 text_for-text : (f : NameId → List Token) (o : Option NameId)
     → ((n : NameId) → list_all is_no_use (f n) ≡ true) → list_all is_no_use (option_map_or f o []) ≡ true
@@ -34,53 +34,6 @@ replaces_uses {w} {k} = record {
   kept = grind (arith, flat_map-append, put-same);
   replaced = grind (arith, flat_map-append);
 }
-
--- Names that pass a test have equal lists.
-abbrev AreSame : (NameId → Bool) → (NameId → List Token) → (NameId → List Token) → Type 0
-AreSame p f g = (n : NameId) → p n ≡ true → f n ≡ g n
-
-text_for-same : (p : NameId → Bool) (f g : NameId → List Token) → AreSame p f g
-    → (o : Option NameId) → list_all p (option_to_list o) ≡ true → option_map_or f o [] ≡ option_map_or g o []
-text_for-same p f g same None h = refl
-text_for-same p f g same (Some n) h = same n (and_parts (p n) true h).0
-
-puts-use : (w : Stored) (p : NameId → Bool) (f g : NameId → List Token) (t : Token)
-    → AreSame p f g → list_all p (use_of w t) ≡ true → put w f t ≡ put w g t
-puts-use w p f g (Name r) same h = text_for-same p f g same (resolved_use w r) h
-puts-use w p f g t same h = refl
-
-puts-same : (w : Stored) (p : NameId → Bool) (f g : NameId → List Token) (ts : List Token)
-    → AreSame p f g → list_all p (uses w ts) ≡ true → flat_map (put w f) ts ≡ flat_map (put w g) ts
-puts-same w p f g [] same h = refl
-puts-same w p f g (t ∷ ts) same h =
-    grind (arith, puts-use, same, all-parts, puts-same w p f g ts same (all-parts p (use_of w t) (uses w ts) h).1)
-
-name-same : (w : Stored) (k : ℕ) (n : NameId) → ends_below w k n ≡ true
-    → expanded_name w (suc k) n ≡ expanded_name w k n
-name-same w zero n h = cc
-name-same w (suc k) n h =
-    puts-same w (ends_below w k) (expanded_name w (suc k)) (expanded_name w k) (joined w n) (λ m e. name-same w k m e) h
-
-expand-next : (w : Stored) (k : ℕ) (ts : List Token)
-    → list_all (ends_below w k) (uses w ts) ≡ true → expand w (suc k) ts ≡ expand w k ts
-expand-next w k ts h = puts-same w (ends_below w k) (expanded_name w (suc k)) (expanded_name w k) ts (name-same w k) h
-
-uses-grow : (w : Stored) (k : ℕ) (ts : List Token) → list_all (ends_below w k) (uses w ts) ≡ true
-    → list_all (ends_below w (suc k)) (uses w ts) ≡ true
-uses-grow w k ts h = uses-weaker w (ends_below w k) (ends_below w (suc k)) ts (λ m l. rank-grows w k m) h
-
-expand-deeper : (w : Stored) (more k : ℕ) (ts : List Token)
-    → list_all (ends_below w k) (uses w ts) ≡ true → expand w (k + more) ts ≡ expand w k ts
-expand-deeper w zero k ts h = let e : k + zero ≡ k = omega arith in ap (λ j. expand w j ts) e
-expand-deeper w (suc more) k ts h =
-    let e : k + suc more ≡ suc k + more = omega arith in
-    ap (λ j. expand w j ts) e ∙ expand-deeper w more (suc k) ts (uses-grow w k ts h) ∙ expand-next w k ts h
-
-pub depth_changes_nothing : (w : Stored) (k depth : ℕ) (ts : List Token) → k ≤ depth
-    → list_all (ends_below w k) (uses w ts) ≡ true → expand w depth ts ≡ expand w k ts
-depth_changes_nothing w k depth ts le h =
-    let e : depth ≡ k + (depth - k) = omega (arith, le) in
-    ap (λ j. expand w j ts) e ∙ expand-deeper w (depth - k) k ts h
 
 kept-append : (joined : Bool) (xs ys : List Token)
     → without_joined_layout joined (xs ++ ys) ≡ without_joined_layout joined xs
@@ -129,8 +82,8 @@ macros-whole replaced (ts ∷ macros) = whole-append (macro_line replaced ts) (f
 mark-ended : (name : List ℕ) (line : ℕ) → is_ended (mark_line name line) ≡ true
 mark-ended name line = grind (arith, ended-after)
 
-separator-none : (c : Class) → separator c Defs ≡ []
-separator-none class.LineStart = refl
+separator-none : (c : Edge) → separator c Defs ≡ []
+separator-none edge_kind.Word = refl
 separator-none _ = refl
 
 defs-whole : (s : Setting) (bytes : List ℕ) (v : Bool) → (v ≡ true → is_whole_lines bytes ≡ true)
@@ -146,7 +99,7 @@ token-whole : (s : Setting) (l : Option Token) (bytes : List ℕ) (t : Token)
     → is_whole_lines (bytes ++ (sep l t ++ file_token_bytes s l t)) ≡ true
 token-whole s l bytes Newline h k = grind (arith, whole-ended, ended-after)
 token-whole s l bytes (Mark p) h k = grind (arith, whole-ended, ended-after, mark-ended)
-token-whole s l bytes Defs h k = grind (arith, sep_by_class, separator-none, defs-whole)
+token-whole s l bytes Defs h k = grind (arith, sep_by_edge, separator-none, defs-whole)
 token-whole s l bytes t h k = cc
 
 list-whole : (s : Setting) (l : Option Token) (bytes : List ℕ) (ts : List Token)

@@ -1,5 +1,5 @@
 -- Macros as ranges of token indices.
-use Rattle.cweb_out.proofs.Common.{◌≡◌, ◌≤◌, ◌<◌, ◌+◌, ◌-◌, ℕ, suc, Bool, true, false, cond, List, [], ◌∷◌, ◌++◌, refl, sym, ◌∙◌, ap, map, take, drop, length, slice_range, arith, get_or, subst, flat_map, filter, All, slice_get, Some, drop-drop, take_at, drop_at, take_more, get_or-drop, length-drop, take-add, Class, Left, added, all_added, at_start, left_after_tokens, left_after_token, PartKind, Token, all_tokens, is_macro, numbers_from, numbers_where, Stored, macro_line, macros, replaced_in, tokens_of_part, slice_get_within}
+use Rattle.cweb_out.proofs.Common.{◌≡◌, ◌≤◌, ◌<◌, ◌+◌, ◌-◌, ℕ, suc, Bool, true, false, cond, List, [], ◌∷◌, ◌++◌, refl, sym, ◌∙◌, ap, map, take, drop, length, slice_range, arith, get_or, subst, flat_map, filter, All, slice_get, Some, drop-drop, take_at, drop_at, take_more, get_or-drop, length-drop, take-add, Edge, Left, added, all_added, at_start, left_after_tokens, left_after_token, PartKind, Token, all_tokens, is_macro, numbers_from, numbers_where, Stored, macro_line, macros, replaced_in, tokens_of_part, slice_get_within}
 use Rattle.cweb_out.proofs.Steps.{added-append, added-push, leaves-push}
 use Rattle.cweb_out.proofs.Ranges.{slice_get-or, slice_range-first}
 use Rattle.cweb_store.proofs.RangeLemmas.{range-none}
@@ -66,7 +66,7 @@ range_split ts a n b t le lt within is =
     )
 
 -- The tokens of a macro: the printed ones, the next one, and the rest.
-pub tokens_at : (by : Class → Token → List ℕ) (ts : List Token) (a n b : ℕ) (t : Token) (left : Left)
+pub tokens_at : (by : Edge → Token → List ℕ) (ts : List Token) (a n b : ℕ) (t : Token) (left : Left)
     → a ≤ n → n < b → b ≤ length ts → slice_get ts n ≡ Some t
     → left ≡ left_after_tokens (slice_range ts a n) → all_added by at_start (slice_range ts a b) ≡ all_added
     by at_start (slice_range ts a n)
@@ -79,11 +79,11 @@ tokens_at by ts a n b t left le lt within is now =
     )
 
 -- Of a macro's tokens, none was printed, or one more.
-pub none_added : (by : Class → Token → List ℕ) (ts : List Token) (a : ℕ)
+pub none_added : (by : Edge → Token → List ℕ) (ts : List Token) (a : ℕ)
     → [] ≡ all_added by at_start (slice_range ts a a)
 none_added by ts a = ap (all_added by at_start) (sym (range-none ts a a (omega arith)))
 
-pub one_added : (by : Class → Token → List ℕ) (ts : List Token) (a n : ℕ) (t : Token) (left : Left) → a ≤ n
+pub one_added : (by : Edge → Token → List ℕ) (ts : List Token) (a n : ℕ) (t : Token) (left : Left) → a ≤ n
     → slice_get ts n ≡ Some t → left ≡ left_after_tokens (slice_range ts a n)
     → all_added by at_start (slice_range ts a n) ++ added by left t ≡ all_added by at_start (slice_range ts a (n + 1))
 one_added by ts a n t left le is now = cc (added-push by (slice_range ts a n) t, range_more ts a n t le is)

@@ -27,13 +27,7 @@ rest_in_prefix bytes used count below within = grind (arith, take-append-le, len
 pub whole_again : (old new : List ℕ) (count : ℕ) → length new ≡ count → take count (new ++ drop (length new) old) ≡ new
 whole_again old new count is = take_at new (drop (length new) old) count is
 
--- A shorter prefix is unchanged if a longer one is.
-pub prefix_within : (old new : List ℕ) (m n : ℕ) → m ≤ n → n ≤ length old → n ≤ length new
-    → take n new ≡ take n old → take m new ≡ take m old
-prefix_within old new m n below within within' same =
-    sym (taken_twice m n new below within') ∙ ap (take m) same ∙ taken_twice m n old below within
-
--- It is unchanged if bytes were written after the longer one.
+-- A shorter prefix is unchanged if bytes were written after a longer one.
 pub prefix_stays : (old new more : List ℕ) (used end : ℕ) → used ≤ end → used ≤ length old → end ≤ length new
     → take end new ≡ take used old ++ more → take used new ≡ take used old
 prefix_stays old new more used end below within within' is =

@@ -1,17 +1,11 @@
 -- Prefixes of the remaining tokens that were printed in order.
-use Rattle.cweb_out.proofs.Common.{◌≡◌, ◌++◌, ◌∙◌, [], refl, sym, ap, subst, append_assoc, ℕ, List, ◌&&◌, list_all, Stored, Token, Setting, print, AreDirect, is_direct, setting_of, PrintsPrefix, arith}
+use Rattle.cweb_out.proofs.Common.{◌≡◌, ◌++◌, ◌∙◌, sym, ap, subst, append_assoc, ℕ, List, ◌&&◌, list_all, Stored, Token, Setting, print, AreDirect, is_direct, setting_of, PrintsPrefix, arith}
 use Rattle.std.proofs.lemmas.List.Folds.{list_all-append}
 use Rattle.cweb_out.specs.surface.Printed.{left_after_tokens}
 use Rattle.cweb_out.specs.declared.printer.Printer.{Printer}
 use Rattle.cweb_out.specs.inner.BufferedPrinting.{AddsBytes}
-use Rattle.cweb_out.proofs.DirectPrefixes.{passed_none}
 use Rattle.cweb_out.specs.inner.FrameStacks.{PrintsFrame}
 use Rattle.cweb_out.specs.declared.frame.Frame.{Frame}
-
-pub prefix_none : {p : Printer} {ts : List Token} {old : List ℕ} → PrintsPrefix p p ts ts old old
-prefix_none {p} {old} =
-    let none = passed_none p old in
-    record { done = []; whole = refl; direct = none.direct; moves = none.moves; prints = none.prints }
 
 are_borrowed-append : (xs ys : List Token) → AreDirect xs → AreDirect ys → AreDirect (xs ++ ys)
 are_borrowed-append xs ys h k = list_all-append is_direct xs ys ∙ ap (λ b. b && list_all is_direct ys) h ∙ k

@@ -2,7 +2,7 @@
 use Rattle.cweb_out.proofs.Common.{◌≡◌, ◌≤◌, ◌<◌, ◌+◌, ℕ, [], ◌∷◌, List, Some, length, arith, slice_range, slice_index_or, zero, suc, add-one, slice_get, Token, Blank, Stored, all_tokens}
 use Rattle.std.proofs.Math.Seq.{drop-cons}
 use Rattle.std.proofs.lemmas.Option.{slice_get-get_or, get_or_from_slice_get}
-use Rattle.cweb_out.specs.inner.Classes.{token_at}
+use Rattle.cweb_out.specs.inner.Edges.{token_at}
 
 pub slice_get-or : (ts : List Token) (i : ℕ) (t : Token) → slice_get ts i ≡ Some t → t ≡ slice_index_or ts i t
 slice_get-or [] i t h = cc

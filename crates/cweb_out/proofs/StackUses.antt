@@ -32,16 +32,6 @@ entered {w} {fs} {new} {r} m q rest s grows lower e text a is =
       };
     }
 
--- A use that expands to nothing.
-pub passed_none : {w : Stored} {fs : List Frame} {r : NameRef}
-    → put w (expanded_name w (level w fs)) (Name r) ≡ [] → Enters w fs fs r
-passed_none {w} {fs} none = record { left = ap (λ ts. ts ++ left w fs) (sym none); work = omega arith }
-
--- A name without parts has an empty list.
-pub no_parts : (w : Stored) (fs : List Frame) (r : NameRef) (m : NameId)
-    → resolved_use w r ≡ Some m → joined w m ≡ [] → put w (expanded_name w (level w fs)) (Name r) ≡ []
-no_parts w fs r m e none = grind (arith, none)
-
 pub Valid-one : {w : Stored} {all : List Frame} {f : Frame} {room : ℕ} → all ≡ f ∷ []
     → FrameIsWithin w f → list_all (ends_below w (names w)) (uses w (suffix w f)) ≡ true → room ≡ names w + 1
     → suffix w f ≡ root_list w f.owner → IsFrameStack w all room

@@ -3,13 +3,13 @@ use Rattle.std.specs.Prelude.{ℕ, List, [], Option, length, flat_map, option_to
 use Rattle.std.specs.Prelude.{false, not, find, true, ◌++◌, drop}
 use Rattle.std.specs.List.{list_all, list_any, position_or_len}
 use Rattle.std.specs.Option.{option_map_or}
+use Rattle.cweb_store.specs.Names.{is_id}
 use Rattle.cweb_store.specs.declared.name.NameId.{NameId}
+use Rattle.cweb_store.specs.Parts.{Token, Name, is_unnamed, is_of}
 use Rattle.cweb_store.specs.declared.name.NameRef.{NameRef}
 use Rattle.cweb_store.specs.Names as spec
 use Rattle.cweb_store.specs.Parts as parts
-use Rattle.cweb_store.specs.Parts.{Token, Name, is_unnamed, is_of}
 use Rattle.cweb_store.specs.Calls.{Stored}
-use Rattle.cweb_store.specs.Names.{is_id}
 
 -- The number of names.
 abbrev pub names : Stored → ℕ

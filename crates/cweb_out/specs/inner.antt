@@ -1,6 +1,6 @@
 -- Definitions that only the functions of this crate cite.
 pub mod BufferedPrinting
-pub mod Classes
+pub mod Edges
 pub mod FrameStacks
 pub mod Planning
 pub mod Search

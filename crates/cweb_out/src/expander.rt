@@ -3,10 +3,10 @@ ghost use Rattle.std.specs.Prelude.{◌≡◌, ◌≤◌, ◌<◌, ◌+◌, [], 
 ghost use Rattle.cweb_store.specs.surface.Tokens.{token_model};
 ghost use Rattle.cweb_store.specs.Parts.{Name};
 ghost use Rattle.cweb_out.specs.Expansion.{names, expand};
+ghost use Rattle.cweb_out.specs.surface.FrameStacks.{YieldsNext, IsFrameStack, IsReady, left};
 ghost use Rattle.cweb_out.specs.surface.Outputs.{IsPlanOf, root_at};
 ghost use Rattle.cweb_out.specs.Outputs.{root_list};
 ghost use Rattle.cweb_out.specs.inner.FrameStacks.{Advances, Enters, KeepsExpander, UsesLower};
-ghost use Rattle.cweb_out.specs.surface.FrameStacks.{YieldsNext, IsFrameStack, IsReady, left};
 
 pub mod appending;
 

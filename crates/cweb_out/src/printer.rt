@@ -3,13 +3,12 @@ ghost use Rattle.std.specs.Prelude.{◌≡◌, ◌<◌, ◌+◌, ◌^◌, [], On
 ghost use Rattle.cweb_files.specs.surface.Writes.{Wrote};
 ghost use Rattle.cweb_lines.specs.surface.OpenedFileNames.{opened_file_names};
 ghost use Rattle.cweb_store.specs.surface.Tokens.{token_model};
-ghost use Rattle.cweb_out.specs.inner.Classes.{added, begin_by, file_by, own_line_bytes};
+ghost use Rattle.cweb_out.specs.inner.Edges.{added, begin_by, file_by, own_line_bytes};
 ghost use Rattle.cweb_out.specs.surface.Printed.{left_after_tokens, MarkFileIsNamed, EndsFile};
 ghost use Rattle.cweb_out.specs.surface.Printed.{Moves, PrintsToken, left_in_printer, setting_of};
 ghost use Rattle.cweb_out.specs.Printing.{setting};
 
 pub mod buffered;
-pub mod class;
 pub mod direct_range;
 pub mod edges;
 pub mod left;
@@ -18,16 +17,16 @@ pub mod mark;
 pub mod plain;
 
 use crate::chunks::{write_blank, write_chunk};
-use crate::printer::class::Class;
+use crate::printer::edges::is_apart;
 use crate::printer::left::Left;
 use crate::printer::macros::write_macros;
 use crate::printer::mark::write_mark;
 use crate::printer::plain::write_plain;
 use cweb_files::{Sink, SinkFault};
 use cweb_lines::FileNames;
-use cweb_store::{Store, Token};
+use cweb_store::{Edge, Store, Token};
 
-/// Prints tokens in order. It stores the last token's class and whether a join is open. It isn't called after a fault.
+/// Prints tokens in order. It stores the last token's edge and whether a join is open. It isn't called after a fault.
 #[derive(Drop)]
 pub struct Printer<'a> {
     store: &'a Store,
@@ -90,7 +89,7 @@ impl<'a> Printer<'a> {
         if self.left.drops(token) {
             return Ok(());
         }
-        write_blank(out, self.left.class.is_apart(token))?;
+        write_blank(out, is_apart(self.left.last, token))?;
         self.write_placed(token, out)?;
         write_plain(self.store, token, out)
     }
@@ -100,7 +99,7 @@ impl<'a> Printer<'a> {
         requires count { (W.model out.old).failed + 1 < 2 ^ 64 }
         requires named { MarkFileIsNamed (setting_of self.now) (token_model token.now) }
         ensures wrote { Wrote
-            (own_line_bytes (setting_of self.now) (left_in_printer self.now).class
+            (own_line_bytes (setting_of self.now) (left_in_printer self.now).last
             (token_model token.now))
             (W.model out.old) (W.model out.new) result }
     {
@@ -119,10 +118,10 @@ impl<'a> Printer<'a> {
 
     // A newline, or nothing at the start of a line.
     fn begin_line(&self) -> &'static [u8]
-        ensures { result.now ≡ begin_by (left_in_printer self.now).class }
+        ensures { result.now ≡ begin_by (left_in_printer self.now).last }
     {
-        match self.left.class {
-            Class::LineStart => b"",
+        match self.left.last {
+            Edge::LineEnd => b"",
             _ => b"\n",
         }
     }

@@ -1,6 +1,5 @@
 -- A literal ends at its quote, whatever follows.
-use Rattle.cweb_rules.proofs.Common.{◌≡◌, ℕ, ◌+◌, ◌-◌, ◌<◌, ◌≤◌, suc, zero, Bool, true, false, cond, ◌||◌, ◌==◌, List, [], ◌∷◌, ◌++◌, length, take, drop, refl, ap, sym, ◌∙◌, arith, codes, eqb-true, begins, at_line_end, in_c, Reach, reach_in, with_unit, reach_size, Look, Goes, Ends, reach_of_literal, look_in_literal, Closed, Cut, c_match, literal_match, quoted_match, has_quote_at, literal_prefix, starts_literal, quote_of, starts_raw, raw_match, and_parts, and-false, drop-append-le}
-use Rattle.cweb_rules.proofs.Chosen.{Passed, passed_prefix}
+use Rattle.cweb_rules.proofs.Common.{◌≡◌, ℕ, ◌+◌, ◌-◌, ◌<◌, ◌≤◌, suc, zero, Bool, true, false, cond, ◌||◌, ◌==◌, List, [], ◌∷◌, ◌++◌, length, drop, refl, ap, sym, ◌∙◌, arith, codes, eqb-true, begins, at_line_end, in_c, Reach, reach_in, with_unit, reach_size, Look, Goes, Ends, reach_of_literal, look_in_literal, Closed, Cut, c_match, literal_match, quoted_match, has_quote_at, literal_prefix, starts_literal, quote_of, starts_raw, raw_match, and_parts, and-false, drop-append-le, at_start, IsPast}
 use Rattle.cweb_rules.proofs.Raws.{quoted_stays, raw_stays, ends_raw}
 use Rattle.cweb_rules.proofs.Stays.{opening, opens, is_letter_first}
 use Rattle.cweb_rules.proofs.TokensStay.{passes}
@@ -9,16 +8,9 @@ abbrev seen : Bool → Bool → Bool → Bool → Look
 seen closes cut escaped pair =
     cond closes (Ends 1 Closed) (cond cut (Ends 0 Cut) (cond escaped (Goes 1) (cond pair (Goes 2) (Goes 1))))
 
-abbrev at_start : (List ℕ → Look) → Look → List ℕ → List ℕ → Reach
-at_start look v u w =
-    elim v [
-      | Goes n ↦ with_unit (take n u) (reach_in look Cut (n - 1) w)
-      | Ends n how ↦ record { units = []; close = n; how = how }
-    ]
-
 last_byte : (look : List ℕ → Look) (q e x p x' p' : Bool) (b : ℕ) (more : List ℕ)
-    → (at_start look (seen q e x p) (b ∷ []) []).how ≡ Closed
-    → at_start look (seen q e x' p') (b ∷ more) more ≡ at_start look (seen q e x p) (b ∷ []) []
+    → (at_start look (seen q e x p) (b ∷ []) Cut []).how ≡ Closed
+    → at_start look (seen q e x' p') (b ∷ more) Cut more ≡ at_start look (seen q e x p) (b ∷ []) Cut []
 last_byte look true e x p x' p' b more h = refl
 last_byte look false true x p x' p' b more h = cc
 last_byte look false false true p x' p' b more h = cc
@@ -26,10 +18,11 @@ last_byte look false false false true x' p' b more h = cc
 last_byte look false false false false x' p' b more h = cc
 
 further_byte : (look : List ℕ → Look) (q e x p : Bool) (b c : ℕ) (t more : List ℕ)
-    → (at_start look (seen q e x p) (b ∷ c ∷ t) (c ∷ t)).how ≡ Closed
-    → ((k : ℕ) → (reach_in look Cut k (c ∷ t)).how ≡ Closed → reach_in look Cut
-    k (c ∷ t ++ more) ≡ reach_in look Cut k (c ∷ t)) → at_start look (seen q e x p) (b ∷ c ∷ t ++ more) (c ∷ t ++ more)
-    ≡ at_start look (seen q e x p) (b ∷ c ∷ t) (c ∷ t)
+    → (at_start look (seen q e x p) (b ∷ c ∷ t) Cut (c ∷ t)).how ≡ Closed
+    → ((k : ℕ) → (reach_in look Cut k (c ∷ t)).how ≡ Closed
+    → reach_in look Cut k (c ∷ t ++ more) ≡ reach_in look Cut k (c ∷ t))
+    → at_start look (seen q e x p) (b ∷ c ∷ t ++ more) Cut (c ∷ t ++ more)
+    ≡ at_start look (seen q e x p) (b ∷ c ∷ t) Cut (c ∷ t)
 further_byte look true e x p b c t more h ih = refl
 further_byte look false true x p b c t more h ih = refl
 further_byte look false false true p b c t more h ih = ap (with_unit (b ∷ [])) (ih 0 h)
@@ -81,12 +74,12 @@ literal_with n t more q closed within = grind (arith, quote_within, drop-append-
 not_slash : (b : ℕ) (t : List ℕ) → starts_literal (b ∷ t) ≡ true → (47 == b) ≡ false
 not_slash b t h = grind (arith, eqb-true 47 b)
 
-pub literal_first : (t : List ℕ) → Passed t → starts_raw t ≡ false
+pub literal_first : (t : List ℕ) → IsPast t → starts_raw t ≡ false
     → starts_literal t ≡ true → c_match in_c false false t ≡ literal_match t
-literal_first t p r q = cc (passed_prefix t p)
+literal_first t p r q = cc
 
-pub raw_prefix : (t : List ℕ) → Passed t → starts_raw t ≡ true → c_match in_c false false t ≡ raw_match t
-raw_prefix t p r = cc (passed_prefix t p)
+pub raw_prefix : (t : List ℕ) → IsPast t → starts_raw t ≡ true → c_match in_c false false t ≡ raw_match t
+raw_prefix t p r = cc
 
 abbrev pub ends_closed : List ℕ → Type 0
 ends_closed t = let n = literal_prefix t in ((inside n t).how ≡ Closed) × ((n + 1) + reach_size (inside n t) ≤ length t)
@@ -124,7 +117,7 @@ literal_not_raw t h = by_prefix (begins (codes "u8") t) (is_letter_first t) (has
     (has_quote_at 0 t) (starts_raw t ≡ false) (sym (opening t) ∙ h) (after_u8 t) (after_letter t) (after_quote t)
 
 -- A literal that isn't raw doesn't become raw, since its prefix ends in a quote.
-pub literal_stays_whole : (b : ℕ) (t more : List ℕ) → Passed (b ∷ t)
+pub literal_stays_whole : (b : ℕ) (t more : List ℕ) → IsPast (b ∷ t)
     → starts_raw (b ∷ t) ≡ false → starts_literal (b ∷ t) ≡ true → ends_closed (b ∷ t)
     → c_match in_c false false (b ∷ t ++ more) ≡ c_match in_c false false (b ∷ t)
 literal_stays_whole b t more p r q ends =
@@ -141,7 +134,7 @@ literal_stays_whole b t more p r q ends =
 no_raw_slash : (b : ℕ) (t : List ℕ) → starts_raw (b ∷ t) ≡ true → (47 == b) ≡ false
 no_raw_slash b t h = grind (arith, eqb-true 47 b)
 
-pub raw_stays_whole : (b : ℕ) (t more : List ℕ) → Passed (b ∷ t) → starts_raw (b ∷ t) ≡ true
+pub raw_stays_whole : (b : ℕ) (t more : List ℕ) → IsPast (b ∷ t) → starts_raw (b ∷ t) ≡ true
     → ends_raw (b ∷ t) → c_match in_c false false (b ∷ t ++ more) ≡ c_match in_c false false (b ∷ t)
 raw_stays_whole b t more p r ends =
     let d = b ∷ t in

@@ -2,10 +2,10 @@
 pub use Rattle.std.proofs.Common.{◌≡◌, ℕ, Bool, true, false, ◌&&◌, List, refl, [], ◌∷◌, Option, Some, None, sym, subst}
 pub use Rattle.std.proofs.Common.{drop, ◌<◌, ◌+◌, ◌||◌, ◌==◌, ap, ◌∙◌, arith, ◌-◌, ◌≤◌, suc, zero, cond, ◌++◌, length}
 pub use Rattle.std.proofs.Common.{take, not, map, length-append, slice_index_or, ◌*◌, ◌≢◌, get_or, take-append-drop}
-pub use Rattle.std.proofs.Common.{append_assoc, replicate, rules, eqb}
+pub use Rattle.std.proofs.Common.{append_assoc, replicate, eqb}
 pub use Rattle.std.proofs.Math.Bool.{and-false, or-true, or-false, and-true}
 pub use Rattle.std.proofs.Math.Seq.{take-add, drop-nil, take-append_seam}
-pub use Rattle.std.proofs.lemmas.Bool.{and_parts, or_parts, not-false, eqb-true, leb-true, ne_eqb, eqb-false, ltb-true}
+pub use Rattle.std.proofs.lemmas.Bool.{and_parts, or_parts, eqb-true, leb-true, ne_eqb, eqb-false, ltb-true}
 pub use Rattle.std.proofs.lemmas.Bool.{not-true, or_left}
 pub use Rattle.std.proofs.lemmas.Bool.Decides.{nat_tests}
 pub use Rattle.std.proofs.lemmas.Fmt.{length-decimal-le}
@@ -29,24 +29,29 @@ pub use Rattle.cweb_rules.specs.Codes.{in_c, in_limbo, in_tex, in_macro}
 pub use Rattle.cweb_rules.specs.Constants.{letter, constant, character, escapes, escaped, octal}
 pub use Rattle.cweb_rules.specs.Constants.{after_backslash, is_plain_character, character_at, faulty_size, constant_of}
 pub use Rattle.cweb_rules.specs.Constants.{hex_at, letter_with, letter_after}
-pub use Rattle.cweb_rules.specs.inner.Rules.{octal_value, ends_faulty, in_class, seconds, second_is, is_listed}
-pub use Rattle.cweb_rules.specs.inner.Rules.{begins_triple, begins_pair, c_rule, c_match_by, is_settled}
+pub use Rattle.cweb_rules.specs.inner.Rules.{octal_value, ends_faulty, in_class, seconds, second_is}
+pub use Rattle.cweb_rules.specs.inner.Rules.{begins_triple, begins_pair, is_settled}
 pub use Rattle.cweb_rules.specs.Items.{Reach, reach_in, with_unit, reach_size, body, reach}
 pub use Rattle.cweb_rules.specs.Items.{look_in_literal, look_in_comment}
 pub use Rattle.cweb_rules.specs.Items.{look_in_control, look_in_name, look_in_include}
 pub use Rattle.cweb_rules.specs.Items.{look_in_raw, reach_of_comment, reach_of_line_comment}
 pub use Rattle.cweb_rules.specs.Items.{opener_len, unit_bytes, unescaped}
-pub use Rattle.cweb_rules.specs.Matches.{c_match, tex_match, starts_raw, starts_literal, starts_include, section_match}
+pub use Rattle.cweb_rules.specs.Matches.{c_match, tex_match, starts_include, section_match}
+pub use Rattle.cweb_rules.specs.Literals.{starts_raw, starts_literal}
 pub use Rattle.cweb_rules.specs.Matches.{found_letter_match, effect_match, code_match, comment_match}
-pub use Rattle.cweb_rules.specs.Matches.{line_comment_match, literal_match, raw_match, quoted_match, has_quote_at}
-pub use Rattle.cweb_rules.specs.Matches.{literal_prefix, quote_of, control_text_match, verbatim_match, constant_match}
-pub use Rattle.cweb_rules.specs.Matches.{letter_match, opener_after, name_match, raw_prefix, has_delimiter, delimiter}
-pub use Rattle.cweb_rules.specs.Matches.{raw_closer, include_match, macro_match, head_match_of, match_in, is_closed}
+pub use Rattle.cweb_rules.specs.Matches.{line_comment_match, literal_match, raw_match, quoted_match}
+pub use Rattle.cweb_rules.specs.Literals.{has_quote_at}
+pub use Rattle.cweb_rules.specs.Matches.{control_text_match, verbatim_match, constant_match}
+pub use Rattle.cweb_rules.specs.Literals.{literal_prefix, quote_of}
+pub use Rattle.cweb_rules.specs.Matches.{letter_match, opener_after, name_match}
+pub use Rattle.cweb_rules.specs.Literals.{raw_prefix, has_delimiter, delimiter}
+pub use Rattle.cweb_rules.specs.Matches.{include_match, macro_match, head_match_of, match_in, is_closed}
+pub use Rattle.cweb_rules.specs.Literals.{raw_closer}
 pub use Rattle.cweb_rules.specs.Matches.{head_match, RuleMatch, Kind, Code, Section, Blanks, LineEnd, Quoted}
 pub use Rattle.cweb_rules.specs.Matches.{Identifier, Numeral, Punctuator, rule_match, Comment, Skipped, Letter}
-pub use Rattle.cweb_rules.specs.Matches.{Verbatim, Constant, Occurrence, Defined}
+pub use Rattle.cweb_rules.specs.Matches.{Verbatim, Constant, Occurrence, Defined, c_rule, c_match_by}
 pub use Rattle.cweb_rules.proofs.ItemReaches.{reach_of_control_text, reach_of_name, reach_of_literal}
-pub use Rattle.cweb_rules.proofs.ItemReaches.{reach_of_included_name, reach_of_raw_literal}
+pub use Rattle.cweb_rules.proofs.ItemReaches.{reach_of_included_name, reach_of_raw_literal, at_start}
 pub use Rattle.cweb_rules.specs.declared.constants.Character.{Character}
 pub use Rattle.cweb_rules.specs.declared.constants.Transliteration.{Transliteration}
 pub use Rattle.cweb_rules.specs.declared.constants.Valued.{Valued}
@@ -67,7 +72,7 @@ pub use Rattle.cweb_rules.specs.declared.rule.Rule.{Rule}
 pub use Rattle.cweb_rules.specs.inner.LineItems.{opens_effect, opens_code, opens_comment, opens_raw, opens_literal}
 pub use Rattle.cweb_rules.specs.inner.LineItems.{c_opens, tex_opens, IsLine, AtLineEnd, opens_name, macro_opens}
 pub use Rattle.cweb_rules.specs.inner.LineItems.{opens_in, is_unclosed, look_of, reached, is_raw_special, is_special}
-pub use Rattle.cweb_rules.specs.inner.LineItems.{is_plain}
+pub use Rattle.cweb_rules.specs.inner.LineItems.{is_plain, opens_by, IsPast}
 pub use Rattle.cweb_rules.specs.laws.Laws.{is_quiet, JoinsAll, IsToken, all_join, after_word, after_number, joins_last}
 pub use Rattle.cweb_rules.specs.laws.Laws.{continues_lexeme, emits_at, is_token, begins_as, at_line_ends, Pays}
 pub use Rattle.cweb_rules.specs.laws.Laws.{FitsAndPays}

@@ -1,5 +1,6 @@
--- The table of first bytes agrees with its definition.
-use Rattle.cweb_rules.proofs.Common.{◌≡◌, ◌<◌, ℕ, zero, suc, ◌+◌, Bool, true, ◌&&◌, ◌==◌, List, [], ◌∷◌, ◌++◌, length, replicate, slice_index_or, refl, ap, sym, ◌∙◌, arith, eqb-true, and_parts}
+-- The tables of first bytes and of identifier bytes agree with their definitions.
+use Rattle.cweb_rules.proofs.Common.{◌≡◌, ◌<◌, ℕ, zero, suc, ◌+◌, Bool, true, ◌&&◌, ◌==◌, List, [], ◌∷◌, ◌++◌, length, replicate, slice_index_or, refl, ap, sym, ◌∙◌, arith, eqb-true, and_parts, false, is_word_byte}
+use Rattle.cweb_files.proofs.ByteTables.{known_by_table}
 use Rattle.cweb_rules.specs.inner.Rules.{first_byte_class}
 use Rattle.cweb_rules.specs.declared.firsts.Plain.{Plain}
 use Rattle.cweb_rules.specs.declared.firsts.Plain.TheVariants.{Lone, Operator, Digit, Quote, Stop, Blank, Word, Further}
@@ -46,3 +47,12 @@ firsts = replicate 9 Operator ++ replicate 1 Blank ++ replicate 1 Further ++ rep
 
 pub first_known : (b : ℕ) (d : Plain) → b < 256 → slice_index_or firsts b d ≡ first_byte_class b
 first_known b d small = known_from firsts 0 b b d refl small (omega arith)
+
+-- The table of identifier bytes as spans of equal values.
+abbrev pub word_bytes : List Bool
+word_bytes = replicate 36 false ++ replicate 1 true
+    ++ replicate 11 false ++ replicate 10 true ++ replicate 7 false ++ replicate 26 true ++ replicate 4 false
+    ++ replicate 1 true ++ replicate 1 false ++ replicate 26 true ++ replicate 5 false ++ replicate 128 true
+
+pub word_known : (b : ℕ) → b < 256 → slice_index_or word_bytes b false ≡ is_word_byte b
+word_known b small = known_by_table is_word_byte word_bytes refl b small

@@ -1,6 +1,9 @@
 -- A lexeme of a line has no newline.
-use Rattle.cweb_rules.proofs.Common.{arith, ◌≡◌, ℕ, zero, suc, ◌+◌, ◌-◌, Bool, true, false, ◌&&◌, List, [], ◌∷◌, ◌++◌, Option, Some, None, length, take, drop, refl, sym, ◌∙◌, if◌then◌else◌, codes, prefix_len, ne_eqb, begins, is_blank, is_line_end, is_word_byte, at_line_end, starts_section, Effect, Named, in_limbo, in_tex, in_macro, in_c, letter, Transliteration, Look, Goes, Ends, Reach, reach, reach_in, with_unit, body, End, Cut, look_in_literal, look_in_include, look_in_raw, Kind, Blanks, LineEnd, Comment, Quoted, Identifier, RuleMatch, section_match, found_letter_match, name_match, effect_match, code_match, tex_match, comment_match, line_comment_match, literal_prefix, starts_literal, quoted_match, quote_of, raw_prefix, delimiter, raw_closer, starts_raw, starts_include, c_match, head_match_of, IsLine, match_in, Context, Limbo, TeX, Definition, Macro, CText, listed, longest, number_len, starts_number}
+use Rattle.cweb_rules.proofs.Common.{arith, ◌≡◌, ℕ, zero, suc, ◌+◌, ◌-◌, Bool, true, false, ◌&&◌, List, [], ◌∷◌, ◌++◌, Option, Some, None, length, take, drop, sym, ◌∙◌, codes, ne_eqb, begins, at_line_end, starts_section, Effect, Named, in_limbo, in_tex, in_macro, in_c, letter, Transliteration, Look, Goes, Ends, reach, reach_in, body, End, Cut, look_in_literal, look_in_include, look_in_raw, Kind, Blanks, LineEnd, Comment, Quoted, Identifier, RuleMatch, section_match, found_letter_match, name_match, effect_match, code_match, tex_match, literal_prefix, quoted_match, quote_of, raw_prefix, delimiter, raw_closer, c_match, head_match_of, IsLine, match_in, Context, Limbo, TeX, Definition, Macro, CText, c_rule, c_match_by, Rule, at_start}
 use Rattle.cweb_rules.specs.declared.effect.Effect.TheVariants as effect
+use Rattle.cweb_rules.specs.declared.rule.Rule.TheVariants as rule
+use Rattle.cweb_rules.proofs.FirstBytes.{known_if}
+use Rattle.cweb_rules.proofs.FirstRules.{IsFirst, first_rule}
 
 abbrev pub AreLines : List (List ℕ) → Type 0
 AreLines [] = Unit {0}
@@ -16,15 +19,8 @@ IsLine-take zero t h = tt
 IsLine-take (suc n) [] h = tt
 IsLine-take (suc n) (b ∷ t) h = (h.0, IsLine-take n t h.1)
 
-abbrev at_start : (List ℕ → Look) → End → Look → List ℕ → List ℕ → Reach
-at_start look e v u t =
-    elim v [
-      | Goes n ↦ with_unit (take n u) (reach_in look e (n - 1) t)
-      | Ends n how ↦ record { units = []; close = n; how = how }
-    ]
-
 lines_at : (look : List ℕ → Look) (e : End) (v : Look) (u t : List ℕ) → IsLine u
-    → ((k : ℕ) → AreLines (reach_in look e k t).units) → AreLines (at_start look e v u t).units
+    → ((k : ℕ) → AreLines (reach_in look e k t).units) → AreLines (at_start look v u e t).units
 lines_at look e (Goes n) u t h f = (IsLine-take n u h, f (n - 1))
 lines_at look e (Ends n how) u t h f = tt
 
@@ -39,18 +35,13 @@ units-lines look e t h = lines_in look e 0 t h
 abbrev Valid : List ℕ → RuleMatch → Type 0
 Valid t f = InLine f.kind (take f.size t)
 
-choose : (t : List ℕ) (v : Bool) (x y : RuleMatch) → (v ≡ true → Valid t x)
-    → (v ≡ false → Valid t y) → Valid t (if v then x else y)
-choose t true x y f g = f refl
-choose t false x y f g = g refl
-
 pub IsLine-drop : (n : ℕ) (t : List ℕ) → IsLine t → IsLine (drop n t)
 IsLine-drop zero t h = h
 IsLine-drop (suc n) [] h = tt
 IsLine-drop (suc n) (b ∷ t) h = IsLine-drop n t h.1
 
 section-valid : (t : List ℕ) → IsLine t → Valid t (section_match t)
-section-valid t h = grind (arith, choose)
+section-valid t h = known_if (Valid t) (begins (codes "@*") t) _ _ (λ e. IsLine-take 2 t h) (λ e. IsLine-take 1 t h)
 
 letter-valid : (o : Option Transliteration) (t : List ℕ) → IsLine t → Valid t (found_letter_match o t)
 letter-valid None t h = IsLine-take 2 t h
@@ -71,7 +62,8 @@ code_at-valid effect with_opener (a ∷ []) h = h
 code_at-valid effect with_opener (a ∷ b ∷ t) h = code-valid (effect b) with_opener (a ∷ b ∷ t) h
 
 pub text-valid : (effect : ℕ → Effect) (t : List ℕ) → IsLine t → Valid t (tex_match effect t)
-text-valid effect t h = grind (arith, choose, section-valid, code_at-valid)
+text-valid effect t h = known_if (Valid t) (starts_section t) _ _ (λ e. section-valid t h) (λ s.
+    known_if (Valid t) (begins (codes "@") t) _ _ (λ e. code_at-valid effect true t h) (λ e. IsLine-take 1 t h))
 
 lines-append : (us : List (List ℕ)) (u : List ℕ) → AreLines us → IsLine u → AreLines (us ++ u ∷ [])
 lines-append [] u h k = (k, tt)
@@ -89,20 +81,21 @@ quoted-valid look n t h =
 
 pub c-valid : (effect : ℕ → Effect) (with_opener includes : Bool) (b : ℕ) (t : List ℕ)
     → IsLine (b ∷ t) → Valid (b ∷ t) (c_match effect with_opener includes (b ∷ t))
-c-valid effect with_opener includes b t h =
-    let u = b ∷ t in
-    choose u (is_blank b) _ _ (λ v. IsLine-take (prefix_len is_blank u) u h) (λ v0. choose u (is_line_end b) _ _ (λ v.
-    let f : true ≡ false = sym v ∙ ne_eqb b 10 h.0 in
-    cc) (λ v1. choose u (begins (codes "/*") u) _ _ (λ v. IsLine-take (comment_match u).size u h)
-    (λ v2. choose u (begins (codes "//") u) _ _ (λ v. IsLine-take (line_comment_match u).size u h)
-    (λ v3. choose u (starts_section u) _ _ (λ v. section-valid u h) (λ v4. choose u
-    (begins (codes "@") u) _ _ (λ v. code_at-valid effect with_opener u h) (λ v5. choose u (starts_raw u) _ _ (λ v.
-    let m = raw_prefix u + 2 in
-    quoted-valid (look_in_raw (raw_closer (drop m u))) (m + length (delimiter (drop m u)) + 1) u h)
-    (λ v6. choose u (starts_literal u) _ _ (λ v. quoted-valid (look_in_literal (quote_of (drop (literal_prefix u) u)))
-    (literal_prefix u + 1) u h) (λ v7. choose u (includes && starts_include u) _ _ (λ v. quoted-valid look_in_include 1
-    u h) (λ v8. choose u (starts_number u) _ _ (λ v. IsLine-take (number_len 0 u) u h) (λ v9. choose u (is_word_byte b)
-    _ _ (λ v. IsLine-take (prefix_len is_word_byte u) u h) (λ va. IsLine-take (longest listed u) u h)))))))))))
+c-valid effect with_opener includes b t h = by (c_rule includes u) (first_rule includes u)
+  where
+    u : List ℕ
+    u = b ∷ t
+
+    by : (r : Rule) → IsFirst includes u r → Valid u (c_match_by effect with_opener u r)
+    by rule.LineEnd f = let wrong : true ≡ false = sym f ∙ ne_eqb b 10 h.0 in cc
+    by rule.Section f = section-valid u h
+    by rule.Code f = code_at-valid effect with_opener u h
+    by rule.RawLiteral f =
+        let m = raw_prefix u + 2 in
+        quoted-valid (look_in_raw (raw_closer (drop m u))) (m + length (delimiter (drop m u)) + 1) u h
+    by rule.Literal f = quoted-valid (look_in_literal (quote_of (drop (literal_prefix u) u))) (literal_prefix u + 1) u h
+    by rule.IncludedName f = quoted-valid look_in_include 1 u h
+    by _ f = IsLine-take _ u h
 
 head-valid : (k : Kind) (f : RuleMatch) (t : List ℕ) → IsLine t → f.kind ≡ k → Valid t f
     → Valid t (head_match_of k f t)
@@ -117,6 +110,6 @@ pub valid : (c : Context) (includes : Bool) (b : ℕ) (t : List ℕ)
 valid Limbo includes b t h = text-valid in_limbo (b ∷ t) h
 valid TeX includes b t h = text-valid in_tex (b ∷ t) h
 valid (Definition begun) includes b t h = grind (arith, head-valid, c-valid in_macro true false b t h)
-valid Macro includes b t h = choose (b ∷ t) (begins (codes "\\") (b ∷ t) && at_line_end t) _ _
+valid Macro includes b t h = known_if (Valid (b ∷ t)) (begins (codes "\\") (b ∷ t) && at_line_end t) _ _
     (λ v. IsLine-take 1 (b ∷ t) h) (λ v. c-valid in_macro true false b t h)
 valid CText includes b t h = c-valid in_c false includes b t h

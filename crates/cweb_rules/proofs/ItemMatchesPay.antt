@@ -1,21 +1,19 @@
 -- Lexemes of codes, comments and literals are within the source, and their bytes pay.
-use Rattle.cweb_rules.proofs.Common.{◌≡◌, ◌≤◌, ◌<◌, ℕ, zero, suc, ◌+◌, Bool, true, false, List, [], ◌∷◌, ◌++◌, Option, Some, None, length, take, drop, refl, ap, arith, length-append, if◌then◌else◌, nat_lt, nat_le, codes, flat_map, flat_map-append, length-drop, length-take-le, prefix_len-le-length, ImproperHexNumber, begins, starts_section, is_line_end, is_delimiter, Effect, Nothing, Define, Format, Program, Named, InsertDefs, Joins, EmitAt, Faulty, letter, constant, Transliteration, Reach, body, reach_size, End, Cut, reach_of_control_text, reach_of_name, reach_of_literal, reach_of_included_name, look_in_control, look_in_name, look_in_literal, look_in_include, look_in_raw, reach_of_raw_literal, Kind, Skipped, Code, Letter, Verbatim, Constant, Occurrence, Comment, Quoted, RuleMatch, rule_match, Context, section_match, control_text_match, verbatim_match, constant_match, found_letter_match, letter_match, opener_after, name_match, effect_match, code_match, tex_match, has_quote_at, literal_prefix, starts_literal, quoted_match, quote_of, literal_match, raw_prefix, has_delimiter, starts_raw, delimiter, raw_closer, raw_match, include_match, at_line_ends, Pays, FitsAndPays, second_so}
+use Rattle.cweb_rules.proofs.Common.{◌≡◌, ◌≤◌, ◌<◌, ℕ, zero, suc, ◌+◌, Bool, true, false, List, [], ◌∷◌, ◌++◌, Option, Some, None, length, take, drop, ap, arith, length-append, if◌then◌else◌, nat_lt, nat_le, codes, flat_map, flat_map-append, length-drop, length-take-le, ImproperHexNumber, begins, starts_section, is_line_end, Effect, Nothing, Define, Format, Program, Named, InsertDefs, Joins, EmitAt, Faulty, letter, constant, Transliteration, Reach, body, reach_size, End, Cut, reach_of_control_text, reach_of_name, reach_of_literal, reach_of_included_name, look_in_control, look_in_name, look_in_literal, look_in_include, look_in_raw, reach_of_raw_literal, Kind, Skipped, Section, Code, Letter, Verbatim, Constant, Occurrence, Comment, Quoted, RuleMatch, rule_match, Context, section_match, control_text_match, verbatim_match, constant_match, found_letter_match, letter_match, opener_after, name_match, effect_match, code_match, tex_match, literal_prefix, starts_literal, quoted_match, quote_of, literal_match, raw_prefix, has_delimiter, starts_raw, delimiter, raw_closer, raw_match, include_match, at_line_ends, Pays, FitsAndPays, second_so}
 use Rattle.cweb_rules.specs.declared.effect.Effect.TheVariants as effect
+use Rattle.cweb_rules.proofs.FirstBytes.{known_if}
 use Rattle.cweb_rules.proofs.Sizes.{take-at_most, begins-size, units-text, reach-size, control-within, name-within, literal-within, include-within, raw-within, opener_after-size}
-use Rattle.cweb_rules.proofs.TokenSizes.{IsShort, constant-size, IsLetter, letter-size}
+use Rattle.cweb_rules.proofs.TokenSizes.{IsShort, constant-size, IsLetter, letter-size, is_quoted-size, has_delimiter-size}
 use Rattle.cweb_rules.specs.declared.constants.TheConstants.{MAX_REPLACEMENT}
 
 pub fair_of : (c : Context) (t : List ℕ) (k : Kind) (n : ℕ) → 0 < n → n ≤ length t
     → (length (take n t) ≡ n → Pays c k (take n t)) → FitsAndPays c t (rule_match k n)
 fair_of c t k n some within pays = record { some = some; within = within; pays = pays (length-take-le n t within) }
 
-pub choose : (c : Context) (t : List ℕ) (v : Bool) (x y : RuleMatch) → (v ≡ true → FitsAndPays c t x)
-    → (v ≡ false → FitsAndPays c t y) → FitsAndPays c t (if v then x else y)
-choose c t true x y f g = f refl
-choose c t false x y f g = g refl
-
 pub section_at-fair : (c : Context) (b : ℕ) (t : List ℕ) → FitsAndPays c (b ∷ t) (section_match (b ∷ t))
-section_at-fair c b t = grind (arith, choose, fair_of, begins-size)
+section_at-fair c b t = known_if (FitsAndPays c (b ∷ t)) (begins (codes "@*") (b ∷ t)) _ _
+    (λ h. fair_of c (b ∷ t) (Section true) 2 (omega arith) (begins-size (codes "@*") (b ∷ t) h) (λ e. omega (arith, e)))
+    (λ h. fair_of c (b ∷ t) (Section false) 1 (omega arith) (omega arith) (λ e. omega (arith, e)))
 
 pub skipped-fair : (c : Context) (b : ℕ) (t : List ℕ) → FitsAndPays c (b ∷ t) (rule_match Skipped 1)
 skipped-fair c b t = fair_of c (b ∷ t) Skipped 1 (omega arith) (omega arith) (λ e. tt)
@@ -103,8 +101,10 @@ code_at-fair c effect with_opener a (b ∷ u) = code_prefix-fair c a b u (effect
 
 pub text_prefix-fair : (c : Context) (effect : ℕ → Effect) (b : ℕ) (t : List ℕ)
     → FitsAndPays c (b ∷ t) (tex_match effect (b ∷ t))
-text_prefix-fair c effect b t = choose c (b ∷ t) (starts_section (b ∷ t)) _ _ (λ h. section_at-fair c b t) (λ h.
-    choose c (b ∷ t) (begins (codes "@") (b ∷ t)) _ _ (λ k. code_at-fair c effect true b t) (λ k. skipped-fair c b t))
+text_prefix-fair c effect b t =
+    let P : RuleMatch → Type 0 = FitsAndPays c (b ∷ t) in
+    known_if P (starts_section (b ∷ t)) _ _ (λ h. section_at-fair c b t) (λ h.
+    known_if P (begins (codes "@") (b ∷ t)) _ _ (λ k. code_at-fair c effect true b t) (λ k. skipped-fair c b t))
 
 ends-size : (t : List ℕ) → at_line_ends 1 t ≤ length t
 ends-size [] = omega arith
@@ -138,19 +138,12 @@ quoted-fair c t n r some fits within =
     (omega (arith, fits, within, length-drop n t))
     (λ e. (omega (arith, e, some), omega (arith, e, units-text us, whole)))
 
-is_quoted-size : (n : ℕ) (t : List ℕ) → has_quote_at n t ≡ true → n + 1 ≤ length t
-is_quoted-size n t h = grind (arith, length-drop n t)
-
 pub literal_at-fair : (c : Context) (t : List ℕ) → starts_literal t ≡ true → FitsAndPays c t (literal_match t)
 literal_at-fair c t h =
     let n = literal_prefix t in
     quoted-fair c t (n + 1) (reach_of_literal (quote_of (drop n t)) (drop (n + 1) t)) (omega arith)
     (is_quoted-size n t h)
     (reach-size (look_in_literal (quote_of (drop n t))) Cut (literal-within (quote_of (drop n t))) (drop (n + 1) t))
-
-has_delimiter-size : (t : List ℕ) → has_delimiter t ≡ true → length (delimiter t) + 1 ≤ length t
-has_delimiter-size t h =
-    grind (arith, begins-size (codes "("), length-drop, length-take-le, prefix_len-le-length is_delimiter t)
 
 pub raw_at-fair : (c : Context) (t : List ℕ) → starts_raw t ≡ true → FitsAndPays c t (raw_match t)
 raw_at-fair c t h =

@@ -2,11 +2,10 @@ pub mod Walks
 mod FirstTable
 pub mod Common
 pub mod Longest
-mod Seconds
 pub mod Seams
 pub mod Sizes
 pub mod TokenSizes
-pub mod ByRules
+pub mod FirstRules
 pub mod Looks
 mod Reaching
 pub mod Ranges
@@ -35,6 +34,5 @@ mod FollowExamples
 pub mod UnitNewlines
 pub mod Newlines
 pub mod FirstBytes
-pub mod WordTable
 pub mod Reaches
 pub mod ItemReaches

@@ -1,10 +1,11 @@
 -- Raw literals and included names that end in their line don't depend on the bytes after it.
-use Rattle.cweb_rules.proofs.Common.{◌≡◌, ◌≤◌, ℕ, suc, ◌+◌, true, false, cond, ◌&&◌, List, [], ◌∷◌, ◌++◌, length, take, drop, refl, ap, ◌∙◌, arith, codes, list_all, prefix_len, take-append-le, drop-append-le, length-drop, length-take-le, prefix_len-le-length, begins, is_blank, is_delimiter, Cut, reach_of_included_name, reach_of_raw_literal, look_in_include, look_in_raw, RuleMatch, quoted_match, raw_prefix, has_delimiter, starts_raw, delimiter, raw_closer, raw_match, starts_include, include_match, AtLineEnd, opens_raw, or-true, and_parts}
+use Rattle.cweb_rules.proofs.Common.{◌≡◌, ◌≤◌, ℕ, suc, ◌+◌, true, false, cond, ◌&&◌, List, [], ◌∷◌, ◌++◌, length, take, drop, refl, ap, ◌∙◌, arith, codes, list_all, prefix_len, take-append-le, drop-append-le, length-drop, prefix_len-le-length, begins, is_blank, is_delimiter, Cut, reach_of_included_name, reach_of_raw_literal, look_in_include, look_in_raw, RuleMatch, quoted_match, raw_prefix, has_delimiter, starts_raw, delimiter, raw_closer, raw_match, starts_include, include_match, AtLineEnd, opens_raw, or-true, and_parts}
 use Rattle.cweb_rules.proofs.Seams.{in_line, begins_line, drop_line, run_line}
 use Rattle.cweb_rules.proofs.Reaches.{reach-line}
 use Rattle.cweb_rules.proofs.Looks.{all_some, whole, include-local, include-units, raw-local, raw-units}
 use Rattle.cweb_rules.proofs.Sizes.{begins-size, reach-size, raw-within, include-within}
 use Rattle.cweb_rules.proofs.LineComments.{and_same}
+use Rattle.cweb_rules.proofs.TokenSizes.{has_delimiter-size}
 use Rattle.cweb_rules.proofs.LineLiterals.{quoted-line, quoted_ends}
 
 pub raw_prefix-line : (t more : List ℕ) → AtLineEnd more → raw_prefix (t ++ more) ≡ raw_prefix t
@@ -49,10 +50,6 @@ closing_sign-in_line t = with_end (delimiter t) (delimiter-in_line t)
 abbrev pub raw_from : ℕ → List ℕ → List ℕ → RuleMatch
 raw_from m d t = let n = m + length d + 1 in
     quoted_match n (reach_of_raw_literal (codes ")" ++ d ++ codes "\"") (drop n t)) t
-
-pub has_delimiter-size : (t : List ℕ) → has_delimiter t ≡ true → length (delimiter t) + 1 ≤ length t
-has_delimiter-size t h =
-    grind (arith, begins-size (codes "("), and_parts, length-drop, length-take-le, prefix_len-le-length is_delimiter t)
 
 pub raw_at_line : (t more : List ℕ) → AtLineEnd more → starts_raw t ≡ true
     → opens_raw t ≡ false → raw_match (t ++ more) ≡ raw_match t

@@ -7,6 +7,7 @@ use Rattle.cweb_rules.specs.inner.LineItems.{goes_on}
 use Rattle.cweb_rules.proofs.OverLineEnds.{ends_in_line, newline}
 use Rattle.cweb_rules.proofs.Sizes.{IsWithin, begins-size, reach-size, literal-within}
 use Rattle.cweb_rules.proofs.LineComments.{and_same}
+use Rattle.cweb_rules.proofs.TokenSizes.{is_quoted-size}
 
 pub quoted-line : (n : ℕ) (r : Reach) (t more : List ℕ) → n ≤ length t
     → reach_size r ≤ length (drop n t) → quoted_match n r (t ++ more) ≡ quoted_match n r t
@@ -41,9 +42,6 @@ literal_prefix-fits t = grind (arith, and_parts (begins (codes "u8") t) (has_quo
 
 pub starts_literal_line : (t more : List ℕ) → AtLineEnd more → starts_literal (t ++ more) ≡ starts_literal t
 starts_literal_line t more e = grind (arith, literal_prefix-line, is_quoted-line, literal_prefix-fits)
-
-pub is_quoted-size : (n : ℕ) (t : List ℕ) → has_quote_at n t ≡ true → n + 1 ≤ length t
-is_quoted-size n t h = grind (arith, length-drop n t)
 
 literal-stops : (quote : ℕ) (more : List ℕ) → (quote == 10) ≡ false → AtLineEnd more
     → reach_of_literal quote more ≡ record { units = []; close = 0; how = Cut }

@@ -1,5 +1,7 @@
 -- A lexeme that ends in its line doesn't depend on the bytes after it.
-use Rattle.cweb_rules.proofs.Common.{arith, ◌≡◌, ◌≤◌, ℕ, Bool, true, false, ◌&&◌, ◌||◌, List, ◌∷◌, ◌++◌, length, refl, ap, ◌∙◌, if◌then◌else◌, codes, prefix_len, Place, begins, is_blank, is_line_end, is_digit, is_word_byte, at_line_end, starts_section, Effect, in_limbo, in_tex, in_macro, in_c, Kind, Blanks, LineEnd, Comment, Identifier, Numeral, Punctuator, RuleMatch, rule_match, section_match, tex_match, starts_raw, starts_literal, starts_include, include_match, c_match, macro_match, head_match_of, head_match, AtLineEnd, opens_comment, opens_literal, opens_raw, opens_code, tex_opens, c_opens, macro_opens, opens_in, match_in, Context, Limbo, TeX, Definition, Macro, CText, listed, longest, number_len, continues_number, starts_number, or_parts}
+use Rattle.cweb_rules.proofs.Common.{arith, ◌≡◌, ◌≤◌, ℕ, Bool, true, false, ◌&&◌, ◌||◌, List, ◌∷◌, ◌++◌, length, refl, ap, ◌∙◌, if◌then◌else◌, codes, Place, begins, is_blank, is_digit, is_word_byte, at_line_end, Effect, in_limbo, in_tex, in_macro, in_c, Kind, Blanks, LineEnd, Comment, Identifier, Numeral, Punctuator, RuleMatch, rule_match, section_match, tex_match, c_match, macro_match, head_match_of, head_match, AtLineEnd, tex_opens, c_opens, macro_opens, opens_in, match_in, Context, Limbo, TeX, Definition, Macro, CText, listed, continues_number, or_parts, Rule, opens_by, c_rule, c_match_by, sym}
+use Rattle.cweb_rules.specs.declared.rule.Rule.TheVariants as rule
+use Rattle.cweb_rules.proofs.FirstRules.{IsFirst, first_rule, c_opens-by}
 use Rattle.cweb_rules.proofs.MatchesPay.{c_prefix-fair}
 use Rattle.cweb_rules.proofs.LineComments.{comment_at_line, line_comment_at_line}
 use Rattle.cweb_rules.proofs.LineCodes.{code_at_line}
@@ -22,44 +24,46 @@ pub text_prefix_line : (effect : ℕ → Effect) (b : ℕ) (t more : List ℕ) �
 text_prefix_line effect b t more e h =
     grind (arith, step, starts_section_line, section_at_line, begins_line, code_at_line, at_fits)
 
-rest_line : (includes : Bool) (b : ℕ) (t more : List ℕ)
-    → AtLineEnd more → (if includes && starts_include (b ∷ t ++ more) then include_match (b ∷ t ++ more) else
-    (if starts_number (b ∷ t ++ more) then rule_match Numeral (number_len 0 (b ∷ t ++ more)) else
-    (if is_word_byte b then
-    rule_match Identifier (prefix_len is_word_byte (b ∷ t ++ more)) else rule_match Punctuator
-    (longest listed (b ∷ t ++ more)))))
-    ≡ (if includes && starts_include (b ∷ t) then
-    include_match (b ∷ t) else
-    (if starts_number (b ∷ t) then rule_match Numeral (number_len 0 (b ∷ t)) else (if is_word_byte
-    b then rule_match Identifier (prefix_len is_word_byte (b ∷ t)) else rule_match Punctuator
-    (longest listed (b ∷ t)))))
-rest_line includes b t more e =
-    λ i. if includes && starts_include_line b t more e i then include_at_line b t more e i else (if starts_number_stop
-    b t more (stops is_digit more refl e) i then rule_match Numeral (number_stop 0 (b ∷ t) more (λ last. stops
-    (continues_number last) more refl e) i) else
-    (if is_word_byte b then rule_match Identifier (run_line is_word_byte (b ∷ t)
-    more refl e i) else rule_match Punctuator
-    (longest_stop in_line listed (b ∷ t) more refl (stops in_line more refl e) i)))
+-- The rule in a line doesn't depend on the bytes after it.
+pub rule_line : (includes : Bool) (b : ℕ) (t more : List ℕ) → AtLineEnd more
+    → c_rule includes (b ∷ t ++ more) ≡ c_rule includes (b ∷ t)
+rule_line includes b t more e = rw (
+  begins_line (codes "/*") (b ∷ t) more refl e,
+  begins_line (codes "//") (b ∷ t) more refl e,
+  starts_section_line b t more e,
+  begins_line (codes "@") (b ∷ t) more refl e,
+  starts_raw_line (b ∷ t) more e,
+  starts_literal_line (b ∷ t) more e,
+  starts_include_line b t more e,
+  starts_number_stop b t more (stops is_digit more refl e),
+)
 
 pub c_prefix_line : (effect : ℕ → Effect) (with_opener includes : Bool) (b : ℕ) (t more : List ℕ)
     → AtLineEnd more → c_opens effect (b ∷ t) ≡ false
     → c_match effect with_opener includes (b ∷ t ++ more) ≡ c_match effect with_opener includes (b ∷ t)
 c_prefix_line effect with_opener includes b t more e h =
-    let u = b ∷ t in
-    step (is_blank b) (is_blank b) _ _ _ _ false _ refl
-    (λ v p. ap (rule_match Blanks) (run_line is_blank u more refl e))
-    (λ v0 h0. step (is_line_end b) (is_line_end b) _ _ _ _ false _ refl
-    (λ v p. refl) (λ v1 h1. step (begins (codes "/*") (u ++ more)) (begins (codes "/*") u) _ _ _ _ (opens_comment u) _
-    (begins_line (codes "/*") u more refl e) (λ v p. comment_at_line u more e (begins-size (codes "/*") u v) p)
-    (λ v2 h2. step (begins (codes "//") (u ++ more)) (begins (codes "//") u) _ _ _ _ false _
-    (begins_line (codes "//") u more refl e) (λ v p. line_comment_at_line u more e (begins-size (codes "//") u v))
-    (λ v3 h3. step (starts_section (u ++ more)) (starts_section u) _ _ _ _ false _
-    (starts_section_line b t more e) (λ v p. section_at_line u more e) (λ v4 h4. step (begins (codes "@") (u ++ more))
-    (begins (codes "@") u) _ _ _ _ (opens_code effect u) _ (begins_line (codes "@") u more refl e)
-    (λ v p. code_at_line effect with_opener b t more e (at_fits b t v4 v) p) (λ v5 h5. step (starts_raw (u ++ more))
-    (starts_raw u) _ _ _ _ (opens_raw u) _ (starts_raw_line u more e) (λ v p. raw_at_line u more e v p) (λ v6 h6.
-    step (starts_literal (u ++ more)) (starts_literal u) _ _ _ _ (opens_literal u) false (starts_literal_line u more e)
-    (λ v p. literal_at_line u more e v p) (λ v7 h7. rest_line includes b t more e) h6) h5) h4) h3) h2) h1) h0) h
+    ap (c_match_by effect with_opener (u ++ more)) (rule_line includes b t more e)
+    ∙ by (c_rule includes u) (first_rule includes u) (sym (c_opens-by effect includes u) ∙ h)
+  where
+    u : List ℕ
+    u = b ∷ t
+
+    by : (r : Rule) → IsFirst includes u r → opens_by effect u r ≡ false
+        → c_match_by effect with_opener (u ++ more) r ≡ c_match_by effect with_opener u r
+    by rule.Blanks f p = ap (rule_match Blanks) (run_line is_blank u more refl e)
+    by rule.LineEnd f p = refl
+    by rule.Comment f p = comment_at_line u more e (begins-size (codes "/*") u f.1) p
+    by rule.LineComment f p = line_comment_at_line u more e (begins-size (codes "//") u f.1)
+    by rule.Section f p = section_at_line u more e
+    by rule.Code f p = code_at_line effect with_opener b t more e (at_fits b t f.0 f.1) p
+    by rule.RawLiteral f p = raw_at_line u more e f.1 p
+    by rule.Literal f p = literal_at_line u more e f.2 p
+    by rule.IncludedName f p = include_at_line b t more e
+    by rule.Number f p = ap (rule_match Numeral) (number_stop 0 u more (λ last.
+        stops (continues_number last) more refl e))
+    by rule.Identifier f p = ap (rule_match Identifier) (run_line is_word_byte u more refl e)
+    by rule.Punctuator f p = ap (rule_match Punctuator) (longest_stop in_line listed u more refl
+        (stops in_line more refl e))
 
 macro_prefix_line : (b : ℕ) (t more : List ℕ) → AtLineEnd more
     → macro_opens (b ∷ t) ≡ false → macro_match (b ∷ t ++ more) ≡ macro_match (b ∷ t)

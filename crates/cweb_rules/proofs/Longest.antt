@@ -1,5 +1,6 @@
 -- The longest listed punctuator has three bytes, or two, or there is none.
-use Rattle.cweb_rules.proofs.Common.{◌≡◌, ℕ, ◌≤◌, Bool, true, false, List, [], ◌∷◌, refl, ◌∙◌, ap, arith, nat_tests, bytes_eq, list_any, if◌then◌else◌, listed, longest, begins_triple, begins_pair}
+use Rattle.cweb_rules.proofs.Common.{◌≡◌, ℕ, ◌≤◌, Bool, true, false, List, [], ◌∷◌, refl, ◌∙◌, ap, arith, nat_tests, bytes_eq, list_any, if◌then◌else◌, listed, longest, begins_triple, begins_pair, ◌&&◌, ◌==◌, begins, second_is, and-false, and_parts}
+use Rattle.cweb_rules.proofs.Seams.{differs}
 
 pub longest_pos : (ps : List (List ℕ)) (t : List ℕ) → 1 ≤ longest ps t
 longest_pos [] t = omega arith
@@ -54,3 +55,22 @@ triple-len t h = listed-is t ∙ ap (λ b. if b then 3 else (if begins_pair t th
 pub other-len : (t : List ℕ) (pair : Bool) → begins_triple t ≡ false → pair ≡ begins_pair t
     → longest listed t ≡ (if pair then 2 else 1)
 other-len t pair h g = grind (arith, listed-is)
+
+-- A source without a second byte of a listed punctuator begins with none of them.
+abbrev pub all_second : (ℕ → Bool) → List (List ℕ) → Bool
+all_second test [] = true
+all_second test (p ∷ ps) = second_is test p && all_second test ps
+
+begins-none : (test : ℕ → Bool) (p t : List ℕ) → second_is test p ≡ true → second_is test t ≡ false → begins p t ≡ false
+begins-none test [] t in_p out_t = absurd (cc)
+begins-none test (a ∷ []) t in_p out_t = absurd (cc)
+begins-none test (a ∷ b ∷ p) [] in_p out_t = refl
+begins-none test (a ∷ b ∷ p) (x ∷ []) in_p out_t = and-false (a == x)
+begins-none test (a ∷ b ∷ p) (x ∷ y ∷ t) in_p out_t = cc (differs test b y in_p out_t, and-false (a == x))
+
+pub longest-none : (test : ℕ → Bool) (ps : List (List ℕ)) (t : List ℕ)
+    → all_second test ps ≡ true → second_is test t ≡ false → longest ps t ≡ 1
+longest-none test [] t all_in out_t = refl
+longest-none test (p ∷ ps) t all_in out_t =
+    let parts = and_parts (second_is test p) (all_second test ps) all_in in
+    rw (begins-none test p t parts.0 out_t) (rw (longest-none test ps t parts.1 out_t) refl)

@@ -1,8 +1,8 @@
 -- The next unit of an item in a line: it doesn't depend on the bytes after the line, and is within the line.
-use Rattle.cweb_rules.proofs.Common.{◌≡◌, ◌≤◌, ◌<◌, ℕ, zero, suc, ◌-◌, Bool, true, false, ◌==◌, List, [], ◌∷◌, ◌++◌, length, refl, arith, if◌then◌else◌, codes, list_all, begins, first_is, starts_section, Look, Goes, Ends, reach, reach_in, Closed, Cut, Open, look_in_control, look_in_name, look_in_comment, look_in_literal, look_in_include, look_in_raw, AtLineEnd, is_unclosed, and_parts}
+use Rattle.cweb_rules.proofs.Common.{◌≡◌, ◌≤◌, ◌<◌, ℕ, zero, suc, ◌-◌, Bool, true, false, ◌==◌, List, [], ◌∷◌, ◌++◌, length, refl, arith, if◌then◌else◌, codes, list_all, begins, first_is, starts_section, Look, Goes, Ends, reach, reach_in, Closed, Cut, Open, look_in_control, look_in_name, look_in_comment, look_in_literal, look_in_include, look_in_raw, AtLineEnd, is_unclosed, and_parts, at_start}
 use Rattle.cweb_rules.proofs.Seams.{in_line, begins_stop, begins_line, starts_section_line}
 use Rattle.cweb_rules.proofs.Sizes.{begins-size}
-use Rattle.cweb_rules.proofs.Reaches.{IsLocal, IsEnd, IsWhole, at_start, WholeAt}
+use Rattle.cweb_rules.proofs.Reaches.{IsLocal, IsEnd, IsWhole, WholeAt}
 
 abbrev pub IsWithin : Look → ℕ → Type 0
 IsWithin (Goes n) len = (0 < n) × (n ≤ len)

@@ -1,14 +1,14 @@
 -- The newlines in a lexeme, as far as its kind determines them.
-use Rattle.cweb_rules.proofs.Common.{◌≡◌, ◌≢◌, ℕ, ◌+◌, Bool, true, false, ◌&&◌, List, [], ◌∷◌, ◌++◌, length, take, drop, refl, ap, sym, ◌∙◌, subst, arith, if◌then◌else◌, codes, eqb-true, begins, is_blank, is_line_end, at_line_end, starts_section, in_limbo, in_tex, in_macro, in_c, effect_match, code_match, tex_match, quote_of, literal_prefix, raw_prefix, delimiter, raw_closer, starts_raw, starts_literal, c_match, head_match_of, match_in, look_in_literal, look_in_raw, Kind, Skipped, Blanks, LineEnd, Comment, Identifier, RuleMatch, rule_match, IsLine, AtLineEnd, opens_comment, opens_literal, opens_raw, opens_effect, opens_code, tex_opens, c_opens, Context, Limbo, TeX, Definition, Macro, CText, Effect, Named}
+use Rattle.cweb_rules.proofs.Common.{◌≡◌, ◌≢◌, ℕ, ◌+◌, Bool, true, false, ◌&&◌, List, [], ◌∷◌, ◌++◌, length, take, drop, refl, ap, sym, ◌∙◌, subst, arith, if◌then◌else◌, codes, eqb-true, begins, is_line_end, at_line_end, in_limbo, in_tex, in_macro, in_c, effect_match, code_match, tex_match, quote_of, literal_prefix, raw_prefix, delimiter, raw_closer, c_match, head_match_of, match_in, look_in_literal, look_in_raw, Kind, Skipped, Blanks, LineEnd, Comment, Identifier, RuleMatch, rule_match, IsLine, AtLineEnd, opens_effect, opens_code, tex_opens, c_opens, Context, Limbo, TeX, Definition, Macro, CText, Effect, Named, Rule, opens_by, c_rule, c_match_by}
 use Rattle.cweb_rules.proofs.ItemMatchesPay.{text_prefix-fair}
 use Rattle.cweb_rules.proofs.MatchesPay.{c_prefix-fair}
 use Rattle.cweb_rules.proofs.InLines.{c-valid, text-valid}
-use Rattle.cweb_rules.proofs.LineMatches.{c_prefix_line, text_prefix_line}
-use Rattle.cweb_rules.proofs.LineLiterals.{starts_literal_line}
-use Rattle.cweb_rules.proofs.LineDelimiters.{starts_raw_line}
-use Rattle.cweb_rules.proofs.Looks.{literal-some}
-use Rattle.cweb_rules.proofs.Seams.{begins_line, starts_section_line}
-use Rattle.cweb_rules.proofs.UnitNewlines.{Tells, Known, in_line-known, quoted-known, raw-some}
+use Rattle.cweb_rules.specs.declared.rule.Rule.TheVariants as rule
+use Rattle.cweb_rules.proofs.FirstRules.{c_opens-by}
+use Rattle.cweb_rules.proofs.LineMatches.{c_prefix_line, text_prefix_line, rule_line}
+use Rattle.cweb_rules.proofs.Looks.{all_some, raw-units, literal-some}
+use Rattle.cweb_rules.proofs.Seams.{starts_section_line}
+use Rattle.cweb_rules.proofs.UnitNewlines.{Tells, Known, in_line-known, quoted-known}
 
 no : {P : Type 0} → false ≡ true → P
 no h = cc
@@ -34,25 +34,28 @@ text-opened effect b u more e h = grind (arith, pick, starts_section_line b u mo
 
 c-opened : (effect : ℕ → Effect) (with_opener includes : Bool) (b : ℕ) (u more : List ℕ) → AtLineEnd more
     → c_opens effect (b ∷ u) ≡ true → Known (b ∷ u ++ more) (c_match effect with_opener includes (b ∷ u ++ more))
-c-opened effect with_opener includes b u more e h =
-    let w = b ∷ u in
-    let t = w ++ more in
-    pick t (is_blank b) (is_blank b) _ _ false _ refl (λ v k. no k) (λ v0 h0.
-    pick t (is_line_end b) (is_line_end b) _ _ false _ refl (λ v k. no k) (λ v1 h1. pick t (begins (codes "/*") t)
-    (begins (codes "/*") w) _ _ (opens_comment w) _ (begins_line (codes "/*") w more refl e) (λ v k. tt) (λ v2 h2.
-    pick t (begins (codes "//") t) (begins (codes "//") w) _ _ false _ (begins_line (codes "//") w more refl e)
-    (λ v k. no k) (λ v3 h3. pick t (starts_section t) (starts_section w) _ _ false _
-    (starts_section_line b u more e) (λ v k. no k) (λ v4 h4. pick t (begins (codes "@") t) (begins (codes "@") w) _ _
-    (opens_code effect w) _ (begins_line (codes "@") w more refl e)
-    (λ v k. code_at-opened effect with_opener b u more k)
-    (λ v5 h5. pick t (starts_raw t) (starts_raw w) _ _ (opens_raw w) _ (starts_raw_line w more e) (λ v k.
-    let m = raw_prefix t + 2 in
-    let sign = raw_closer (drop m t) in
-    quoted-known (look_in_raw sign) (raw-some sign) (m + length (delimiter (drop m t)) + 1) t) (λ v6 h6.
-    pick t (starts_literal t) (starts_literal w) _ _ (opens_literal w) false (starts_literal_line w more e) (λ v k.
-    let n = literal_prefix t in
-    let quote = quote_of (drop n t) in
-    quoted-known (look_in_literal quote) (literal-some quote) (n + 1) t) (λ v7 h7. no h7) h6) h5) h4) h3) h2) h1) h0) h
+c-opened effect with_opener includes b u more e h = subst (λ r. Known t (c_match_by effect with_opener t r))
+    (sym (rule_line includes b u more e)) (by (c_rule includes w) (sym (c_opens-by effect includes w) ∙ h))
+  where
+    w : List ℕ
+    w = b ∷ u
+
+    t : List ℕ
+    t = w ++ more
+
+    by : (r : Rule) → opens_by effect w r ≡ true → Known t (c_match_by effect with_opener t r)
+    by rule.Comment k = tt
+    by rule.Code k = code_at-opened effect with_opener b u more k
+    by rule.RawLiteral k =
+        let m = raw_prefix t + 2 in
+        let sign = raw_closer (drop m t) in
+        quoted-known (look_in_raw sign) (all_some (look_in_raw sign) (raw-units sign))
+        (m + length (delimiter (drop m t)) + 1) t
+    by rule.Literal k =
+        let n = literal_prefix t in
+        let quote = quote_of (drop n t) in
+        quoted-known (look_in_literal quote) (literal-some quote) (n + 1) t
+    by _ k = no k
 
 text-known : (effect : ℕ → Effect) (b : ℕ) (u more : List ℕ) → AtLineEnd more
     → IsLine (b ∷ u) → Known (b ∷ u ++ more) (tex_match effect (b ∷ u ++ more))

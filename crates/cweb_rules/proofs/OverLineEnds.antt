@@ -1,8 +1,8 @@
 -- Items that go on after a newline, or end before it.
-use Rattle.cweb_rules.proofs.Common.{◌≡◌, ℕ, zero, suc, ◌-◌, true, false, List, [], ◌∷◌, ◌++◌, refl, ap, sym, ◌∙◌, Look, Goes, Ends, Reach, reach, reach_in, End, Cut, Open, AtLineEnd, is_unclosed, append-nil, arith}
+use Rattle.cweb_rules.proofs.Common.{◌≡◌, ℕ, zero, suc, ◌-◌, true, false, List, [], ◌∷◌, ◌++◌, refl, ap, sym, ◌∙◌, Look, Goes, Ends, Reach, reach, reach_in, End, Cut, Open, AtLineEnd, is_unclosed, append-nil, arith, at_start}
 use Rattle.cweb_rules.specs.inner.LineItems.{goes_on}
 use Rattle.cweb_rules.proofs.Looks.{IsSome, AllSome, AllWithin, ended_whole, whole}
-use Rattle.cweb_rules.proofs.Reaches.{IsLocal, IsWhole, WholeAt, at_start, join, reach-append, reach-ended}
+use Rattle.cweb_rules.proofs.Reaches.{IsLocal, IsWhole, WholeAt, join, reach-append, reach-ended}
 
 abbrev pub newline : List ℕ
 newline = 10 ∷ []

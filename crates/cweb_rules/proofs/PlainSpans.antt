@@ -1,11 +1,10 @@
 -- Spans of plain bytes.
-use Rattle.cweb_rules.proofs.Common.{◌≡◌, ◌<◌, ℕ, ◌+◌, suc, ◌++◌, ◌∙◌, Open, is_unclosed, Bool, true, false, cond, not, ◌==◌, List, [], ◌∷◌, Option, Some, None, length, drop, get_or, refl, ap, sym, arith, prefix_len, unwrap_or, ne_eqb, eqb-false, prefix_len_is, IsFirstByte, at_line_end, reach, look_in_control, look_in_name, look_in_comment, look_in_literal, look_in_include, look_in_raw, look_of, reached, is_raw_special, is_special, is_plain, End, Item, Name, LineComment, Literal, IncludedName, RawLiteral, Look, Goes, not-true, or_parts}
+use Rattle.cweb_rules.proofs.Common.{◌≡◌, ◌<◌, ℕ, ◌+◌, suc, ◌++◌, ◌∙◌, Open, is_unclosed, Bool, true, false, cond, not, ◌==◌, List, [], ◌∷◌, Option, Some, None, length, drop, get_or, refl, ap, sym, arith, prefix_len, unwrap_or, ne_eqb, eqb-false, prefix_len_is, IsFirstByte, at_line_end, reach, look_in_control, look_in_name, look_in_comment, look_in_literal, look_in_include, look_in_raw, look_of, reached, is_raw_special, is_special, is_plain, End, Item, Name, LineComment, Literal, IncludedName, RawLiteral, Look, Goes, not-true, or_parts, min, ◌≤◌, begins, Closed, at_start}
 use Rattle.cweb_rules.specs.declared.items.Item.TheVariants.{ControlText, Comment}
 use Rattle.cweb_rules.proofs.Ranges.{later_by, later_by-zero, reach_goes}
 use Rattle.cweb_rules.proofs.TokensStay.{no_section}
 use Rattle.cweb_rules.specs.inner.LineItems.{goes_on}
 use Rattle.cweb_rules.proofs.OverLineEnds.{newline}
-use Rattle.cweb_rules.proofs.Reaches.{at_start}
 
 not_passed : (b : Bool) → (b ≡ true → ⊥) → not b ≡ true
 not_passed true h = absurd (h refl)
@@ -77,6 +76,21 @@ reach_plain item e (b ∷ t) = by (is_plain item b) refl (reach_plain item e t)
 pub reach_from : (item : Item) (e : End) (t rest : List ℕ) (n : ℕ) → n ≡ prefix_len (is_plain item) t → rest ≡ drop n t
     → reached (reach (look_of item) e t) ≡ later_by n (reached (reach (look_of item) e rest))
 reach_from item e t rest n size back = grind (arith, reach_plain)
+
+-- After a unit that the code has split off.
+pub unit_from : (look : List ℕ → Look) (e : End) (n : ℕ) (t rest : List ℕ) → 0 < n → n ≤ length t → look t ≡ Goes n
+    → rest ≡ drop n t → reached (reach look e t) ≡ later_by n (reached (reach look e rest))
+unit_from look e n t rest some fits goes back =
+    let whole : min n (length t) ≡ n = omega arith in
+    reach_goes look e n t (omega arith) some goes
+    ∙ (λ i. later_by (whole i) (reached (reach look e (drop (whole i) t))))
+    ∙ ap (λ u. later_by n (reached (reach look e u))) (sym back)
+
+-- At its closing quote.
+pub quote_closes : (quote : ℕ) (t : List ℕ) → begins (quote ∷ []) t ≡ true
+    → reached (reach (look_in_literal quote) Open t) ≡ record { size = 0; close = 1; how = Closed }
+quote_closes quote [] h = cc
+quote_closes quote (b ∷ t) h = cc
 
 -- Whether it goes on after its line.
 pub plain_goes_on : (item : Item) (t : List ℕ)

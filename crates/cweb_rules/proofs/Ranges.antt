@@ -1,5 +1,5 @@
 -- The extent of an item, unit by unit.
-use Rattle.cweb_rules.proofs.Common.{◌≡◌, ◌<◌, ℕ, zero, suc, ◌+◌, ◌-◌, List, [], ◌∷◌, length, take, drop, refl, ap, sym, ◌∙◌, arith, length-append, min, length-take, drop_min, Reach, reach, reach_in, with_unit, body, reached, End, is_closed, Open, Cut, Reached, Look, Goes, Ends}
+use Rattle.cweb_rules.proofs.Common.{◌≡◌, ◌<◌, ℕ, zero, suc, ◌+◌, ◌-◌, List, [], ◌∷◌, length, take, drop, refl, ap, sym, ◌∙◌, arith, length-append, min, length-take, drop_min, Reach, reach, reach_in, with_unit, body, reached, End, is_closed, Open, Cut, Reached, Look, Goes, Ends, at_start}
 
 abbrev pub later_by : ℕ → Reached → Reached
 later_by n r = record { size = n + r.size; close = r.close; how = r.how }
@@ -16,13 +16,6 @@ reach_in-drop look e zero t = refl
 reach_in-drop look e (suc k) [] = refl
 reach_in-drop look e (suc k) (b ∷ t) = reach_in-drop look e k t
 
-abbrev at_start : (List ℕ → Look) → End → Look → List ℕ → List ℕ → Reach
-at_start look e v u t =
-    elim v [
-      | Goes n ↦ with_unit (take n u) (reach_in look e (n - 1) t)
-      | Ends n how ↦ record { units = []; close = n; how = how }
-    ]
-
 unit-size : (u : List ℕ) (r : Reach) → reached (with_unit u r) ≡ later_by (length u) (reached r)
 unit-size u r = ap (λ n. record { size = n; close = r.close; how = r.how }) (length-append u (body r))
 
@@ -31,7 +24,7 @@ pub reach_goes : (look : List ℕ → Look) (e : End) (n : ℕ) (t : List ℕ) �
 reach_goes look e n [] some moves h = absurd (omega arith)
 reach_goes look e n (b ∷ t) some moves h =
     let same : n ≡ suc (n - 1) = omega arith in
-    ap (λ v. reached (at_start look e v (b ∷ t) t)) h
+    ap (λ v. reached (at_start look v (b ∷ t) e t)) h
     ∙ unit-size (take n (b ∷ t)) (reach_in look e (n - 1) t)
     ∙ ap (λ k. later_by k (reached (reach_in look e (n - 1) t))) (length-take n (b ∷ t))
     ∙ ap (λ (r : Reach). later_by (min n (length (b ∷ t))) (reached r))
@@ -40,7 +33,7 @@ reach_goes look e n (b ∷ t) some moves h =
 
 closed_at : (look : List ℕ → Look) (b : ℕ) (t : List ℕ) (v : Look)
     → ((k : ℕ) → is_closed (reach_in look Cut k t).how ≡ is_closed (reach_in look Open k t).how)
-    → is_closed (at_start look Cut v (b ∷ t) t).how ≡ is_closed (at_start look Open v (b ∷ t) t).how
+    → is_closed (at_start look v (b ∷ t) Cut t).how ≡ is_closed (at_start look v (b ∷ t) Open t).how
 closed_at look b t (Goes n) h = h (n - 1)
 closed_at look b t (Ends n how) h = refl
 

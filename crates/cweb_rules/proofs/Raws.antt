@@ -1,5 +1,5 @@
 -- A raw literal ends at its closer, and no other token begins one.
-use Rattle.cweb_rules.proofs.Common.{◌≡◌, ℕ, ◌+◌, ◌-◌, ◌<◌, ◌≤◌, suc, zero, Bool, true, false, cond, ◌&&◌, ◌||◌, ◌==◌, not, List, [], ◌∷◌, ◌++◌, length, take, drop, refl, ap, ◌∙◌, arith, length-append, codes, if◌then◌else◌, nat_le, list_all, prefix_len, take-append-le, length-drop, begins, is_delimiter, first_is, starts_section, is_word_byte, is_one_of, Reach, reach_in, with_unit, reach_size, Look, Goes, Ends, reach_of_raw_literal, look_in_raw, Closed, Cut, after_word, quoted_match, raw_prefix, has_delimiter, starts_raw, delimiter, raw_closer, raw_match, RuleMatch, and_parts, and-false, or_parts, drop-append-le}
+use Rattle.cweb_rules.proofs.Common.{◌≡◌, ℕ, ◌+◌, ◌-◌, ◌<◌, ◌≤◌, suc, zero, Bool, true, false, cond, ◌&&◌, ◌||◌, ◌==◌, not, List, [], ◌∷◌, ◌++◌, length, take, drop, refl, ap, ◌∙◌, arith, length-append, codes, if◌then◌else◌, nat_le, list_all, prefix_len, take-append-le, length-drop, begins, is_delimiter, first_is, starts_section, is_word_byte, is_one_of, Reach, reach_in, with_unit, reach_size, Look, Goes, Ends, reach_of_raw_literal, look_in_raw, Closed, Cut, after_word, quoted_match, raw_prefix, has_delimiter, starts_raw, delimiter, raw_closer, raw_match, RuleMatch, and_parts, and-false, or_parts, drop-append-le, at_start}
 use Rattle.cweb_rules.proofs.Sizes.{begins-size}
 use Rattle.cweb_rules.proofs.Joins.{unlike, begins-append}
 use Rattle.cweb_rules.specs.declared.literals.TheConstants.{MAX_DELIMITER}
@@ -68,15 +68,8 @@ begins_fits (x ∷ p) (b ∷ t) more h = ap (λ v. (x == b) && v) (begins_fits p
 abbrev seen : ℕ → Bool → Bool → Bool → Look
 seen size closes cut pair = cond closes (Ends size Closed) (cond cut (Ends 0 Cut) (cond pair (Goes 2) (Goes 1)))
 
-abbrev at_start : (List ℕ → Look) → Look → List ℕ → List ℕ → Reach
-at_start look v u w =
-    elim v [
-      | Goes n ↦ with_unit (take n u) (reach_in look Cut (n - 1) w)
-      | Ends n how ↦ record { units = []; close = n; how = how }
-    ]
-
 one_long : (close : List ℕ) (b : ℕ) (t : List ℕ) (c s p : Bool) → (c ≡ true → length close ≤ length (b ∷ t))
-    → (at_start (look_in_raw close) (seen (length close) c s p) (b ∷ t) t).how ≡ Closed
+    → (at_start (look_in_raw close) (seen (length close) c s p) (b ∷ t) Cut t).how ≡ Closed
     → ((k : ℕ) → (reach_in (look_in_raw close) Cut k t).how ≡ Closed → length close ≤ length t)
     → length close ≤ length (b ∷ t)
 one_long close b t true s p f h ih = f refl
@@ -92,10 +85,11 @@ long close zero (b ∷ t) h = one_long close b t (begins close (b ∷ t))
     (starts_section (b ∷ t)) (begins (codes "@@") (b ∷ t)) (begins-size close (b ∷ t)) h (λ k g. long close k t g)
 
 further_byte : (look : List ℕ → Look) (n : ℕ) (q e p : Bool) (b c : ℕ) (t more : List ℕ)
-    → (at_start look (seen n q e p) (b ∷ c ∷ t) (c ∷ t)).how ≡ Closed
-    → ((k : ℕ) → (reach_in look Cut k (c ∷ t)).how ≡ Closed → reach_in look Cut
-    k (c ∷ t ++ more) ≡ reach_in look Cut k (c ∷ t)) → at_start look (seen n q e p) (b ∷ c ∷ t ++ more) (c ∷ t ++ more)
-    ≡ at_start look (seen n q e p) (b ∷ c ∷ t) (c ∷ t)
+    → (at_start look (seen n q e p) (b ∷ c ∷ t) Cut (c ∷ t)).how ≡ Closed
+    → ((k : ℕ) → (reach_in look Cut k (c ∷ t)).how ≡ Closed
+    → reach_in look Cut k (c ∷ t ++ more) ≡ reach_in look Cut k (c ∷ t))
+    → at_start look (seen n q e p) (b ∷ c ∷ t ++ more) Cut (c ∷ t ++ more)
+    ≡ at_start look (seen n q e p) (b ∷ c ∷ t) Cut (c ∷ t)
 further_byte look n true e p b c t more h ih = refl
 further_byte look n false true p b c t more h ih = refl
 further_byte look n false false true b c t more h ih = ap (with_unit (b ∷ c ∷ [])) (ih 1 h)
@@ -110,7 +104,7 @@ closed_stays close two zero (b ∷ []) more h = let l = long close 0 (b ∷ []) 
 closed_stays close two zero (b ∷ c ∷ t) more h =
     let u = b ∷ c ∷ t in
     ap (λ v. at_start (look_in_raw close) (seen (length close) v (starts_section u) (begins (codes "@@") u))
-    (u ++ more) (c ∷ t ++ more)) (begins_fits close u more (long close 0 u h))
+    (u ++ more) Cut (c ∷ t ++ more)) (begins_fits close u more (long close 0 u h))
     ∙ further_byte (look_in_raw close) (length close) (begins close u)
     (starts_section u) (begins (codes "@@") u) b c t more h (λ k g. closed_stays close two k (c ∷ t) more g)
 

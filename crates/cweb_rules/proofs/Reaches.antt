@@ -1,5 +1,5 @@
 -- A delimited item is its part before a seam, joined with its part after it.
-use Rattle.cweb_rules.proofs.Common.{◌≡◌, ◌≤◌, ◌<◌, ℕ, zero, suc, ◌-◌, false, List, [], ◌∷◌, ◌++◌, length, take, refl, ap, sym, ◌∙◌, arith, take-append-le, append-nil, Look, Goes, Ends, Reach, reach, reach_in, with_unit, End, Open, is_unclosed}
+use Rattle.cweb_rules.proofs.Common.{◌≡◌, ◌≤◌, ◌<◌, ℕ, zero, suc, ◌-◌, false, List, [], ◌∷◌, ◌++◌, length, refl, ap, sym, ◌∙◌, arith, take-append-le, append-nil, Look, Goes, Ends, Reach, reach, reach_in, End, Open, is_unclosed, at_start}
 
 -- The next unit before the seam doesn't depend on the bytes after it.
 abbrev pub IsLocal : (List ℕ → Look) → List ℕ → Type 0
@@ -28,13 +28,6 @@ whole_fits : (look : List ℕ → Look) (k : ℕ) (t : List ℕ) → IsWhole loo
 whole_fits look k [] h = omega (arith, h)
 whole_fits look (suc k) (b ∷ t) h = omega (arith, whole_fits look k t h)
 whole_fits look zero (b ∷ t) h = omega arith
-
-abbrev pub at_start : (List ℕ → Look) → Look → List ℕ → End → List ℕ → Reach
-at_start look v u f w =
-    elim v [
-      | Goes n ↦ with_unit (take n u) (reach_in look f (n - 1) w)
-      | Ends n how ↦ record { units = []; close = n; how = how }
-    ]
 
 abbrev pub WholeAt : (List ℕ → Look) → Look → List ℕ → Type 0
 WholeAt look v t = elim v [ Goes n ↦ (0 < n) × IsWhole look (n - 1) t | Ends n how ↦ IsEnd how ]

@@ -1,9 +1,8 @@
 -- A delimited item ends at its first end.
-use Rattle.cweb_rules.proofs.Common.{◌≡◌, ◌<◌, ℕ, zero, suc, ◌-◌, List, [], ◌∷◌, length, drop, refl, ap, subst, arith, Look, Goes, Ends, reach_in, End, look_in_control, look_in_name, look_in_comment, look_in_literal, look_in_include, look_in_raw}
+use Rattle.cweb_rules.proofs.Common.{◌≡◌, ◌<◌, ℕ, zero, suc, ◌-◌, List, [], ◌∷◌, length, drop, refl, ap, subst, arith, Look, Goes, Ends, reach_in, End, look_in_control, look_in_name, look_in_comment, look_in_literal, look_in_include, look_in_raw, at_start}
 use Rattle.std.proofs.Common.{inl, inr}
 use Rattle.cweb_rules.specs.laws.Laws.{PassesBytes, EndsAtItsFirstEnd, ItemsEndAtTheirFirstEnd}
 use Rattle.cweb_rules.specs.laws.Laws.{RulesPassBytes}
-use Rattle.cweb_rules.proofs.Reaches.{at_start}
 use Rattle.cweb_rules.proofs.Looks.{IsWithin, AllWithin, IsSome, AllSome, control-units, name-units, comment-units, include-units, raw-units, literal-some}
 
 same-rest : (n : ℕ) (b : ℕ) (t : List ℕ) → 0 < n → drop (n - 1) t ≡ drop n (b ∷ t)

@@ -1,5 +1,5 @@
 -- Delimited items are within the source.
-use Rattle.cweb_rules.proofs.Common.{◌≡◌, ◌≤◌, ℕ, zero, suc, ◌-◌, Bool, true, false, ◌==◌, List, [], ◌∷◌, length, take, refl, arith, length-append, if◌then◌else◌, codes, flat_map, length-drop, prefix_len-le-length, begins, is_gap, Look, Goes, Ends, Reach, reach, reach_in, with_unit, reach_size, opener_after, End, Closed, unit_bytes, unescaped, look_in_control, look_in_name, opener_len, look_in_comment, look_in_literal, look_in_include, look_in_raw, and_parts}
+use Rattle.cweb_rules.proofs.Common.{◌≡◌, ◌≤◌, ℕ, zero, suc, ◌-◌, Bool, true, false, ◌==◌, List, [], ◌∷◌, length, take, refl, arith, length-append, if◌then◌else◌, codes, flat_map, length-drop, prefix_len-le-length, begins, is_gap, Look, Goes, Ends, reach, reach_in, reach_size, opener_after, End, Closed, unit_bytes, unescaped, look_in_control, look_in_name, opener_len, look_in_comment, look_in_literal, look_in_include, look_in_raw, and_parts, at_start}
 
 pub take-at_most : (n : ℕ) (t : List ℕ) → length (take n t) ≤ n
 take-at_most zero t = omega arith
@@ -38,16 +38,9 @@ end_size (Ends n how) = n
 abbrev pub IsWithin : (List ℕ → Look) → Type 0
 IsWithin look = (t : List ℕ) → end_size (look t) ≤ length t
 
-abbrev at_start : (List ℕ → Look) → Look → End → ℕ → List ℕ → Reach
-at_start look v how b t =
-    elim v [
-      | Goes n ↦ with_unit (take n (b ∷ t)) (reach_in look how (n - 1) t)
-      | Ends n e ↦ record { units = []; close = n; how = e }
-    ]
-
 at_start-size : (look : List ℕ → Look) (how : End) (b : ℕ) (t : List ℕ) (v : Look) → end_size v ≤ length (b ∷ t)
     → ((k : ℕ) → reach_size (reach_in look how k t) ≤ length t - k)
-    → reach_size (at_start look v how b t) ≤ length (b ∷ t)
+    → reach_size (at_start look v (b ∷ t) how t) ≤ length (b ∷ t)
 at_start-size look how b t (Ends n e) h rest = omega (arith, h)
 at_start-size look how b t (Goes n) h rest = grind (arith, length-append, take-at_most, take-within)
 

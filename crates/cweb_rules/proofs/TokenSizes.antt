@@ -1,5 +1,5 @@
 -- Constants, transliterations, numbers and punctuators are within the source.
-use Rattle.cweb_rules.proofs.Common.{◌≡◌, ◌≤◌, ◌<◌, ℕ, ◌+◌, Bool, true, ◌&&◌, not, List, [], ◌∷◌, Option, Some, None, length, drop, refl, subst, arith, nat_lt, codes, prefix_len, position_or_len, decimal, ltb-true, leb-true, length-decimal-le, length-drop, prefix_len-le-length, is_gap, is_replacing, ends_faulty, escapes, escaped, octal_value, octal, after_backslash, is_plain_character, character_at, faulty_size, constant_of, constant, hex_at, letter_with, letter_after, letter, Transliteration, Valued, Character, longest, number_len, and_parts}
+use Rattle.cweb_rules.proofs.Common.{◌≡◌, ◌≤◌, ◌<◌, ℕ, ◌+◌, Bool, true, ◌&&◌, not, List, [], ◌∷◌, Option, Some, None, length, drop, refl, subst, arith, nat_lt, codes, prefix_len, position_or_len, decimal, ltb-true, leb-true, length-decimal-le, length-drop, prefix_len-le-length, is_gap, is_replacing, ends_faulty, escapes, escaped, octal_value, octal, after_backslash, is_plain_character, character_at, faulty_size, constant_of, constant, hex_at, letter_with, letter_after, letter, Transliteration, Valued, Character, longest, number_len, and_parts, has_quote_at, has_delimiter, delimiter, is_delimiter, length-take-le}
 use Rattle.cweb_rules.proofs.Sizes.{begins-size}
 
 abbrev IsCharacter : Option Character → Type 0
@@ -89,3 +89,10 @@ number-size last (b ∷ t) = grind (arith, number-size b t)
 pub longest-size : (ps : List (List ℕ)) (b : ℕ) (t : List ℕ) → longest ps (b ∷ t) ≤ length (b ∷ t)
 longest-size [] b t = omega arith
 longest-size (p ∷ ps) b t = grind (arith, longest-size ps b t, begins-size)
+
+pub is_quoted-size : (n : ℕ) (t : List ℕ) → has_quote_at n t ≡ true → n + 1 ≤ length t
+is_quoted-size n t h = grind (arith, length-drop n t)
+
+pub has_delimiter-size : (t : List ℕ) → has_delimiter t ≡ true → length (delimiter t) + 1 ≤ length t
+has_delimiter-size t h =
+    grind (arith, begins-size (codes "("), and_parts, length-drop, length-take-le, prefix_len-le-length is_delimiter t)

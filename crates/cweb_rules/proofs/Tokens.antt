@@ -1,8 +1,8 @@
 -- A token of C text ends by itself, and which bytes begin it.
-use Rattle.cweb_rules.proofs.Common.{◌≡◌, ℕ, Bool, true, false, ◌&&◌, ◌==◌, List, [], ◌∷◌, ◌++◌, Option, Some, None, length, drop, refl, ap, sym, ◌∙◌, subst, arith, eqb-true, is_digit, is_word_byte, first_is, starts_section, in_c, letter, Transliteration, Effect, EmitAt, End, Closed, JoinsAll, IsToken, joins_last, continues_lexeme, emits_at, is_token, begins_as, c_match, effect_match, found_letter_match, is_closed, starts_raw, Kind, rule_match, starts_number, and_parts, or_parts}
+use Rattle.cweb_rules.proofs.Common.{◌≡◌, ℕ, Bool, true, false, ◌&&◌, ◌==◌, List, [], ◌∷◌, ◌++◌, Option, Some, None, length, drop, refl, ap, sym, ◌∙◌, subst, arith, eqb-true, is_digit, is_word_byte, first_is, starts_section, in_c, letter, Transliteration, Effect, EmitAt, End, Closed, JoinsAll, IsToken, joins_last, continues_lexeme, emits_at, is_token, begins_as, c_match, effect_match, found_letter_match, is_closed, starts_raw, Kind, rule_match, starts_number, and_parts, or_parts, IsPast}
 use Rattle.cweb_rules.specs.declared.effect.Effect.TheVariants as effect
 use Rattle.cweb_rules.specs.Matches as kind
-use Rattle.cweb_rules.proofs.Chosen.{Passed, Coded, Opens, Facts, rule_of, chosen}
+use Rattle.cweb_rules.proofs.Chosen.{Coded, Opens, Facts, rule_of, chosen}
 use Rattle.cweb_rules.proofs.ClosedLiterals.{raw_stays_whole, literal_stays_whole}
 use Rattle.cweb_rules.proofs.Joins.{seam_joins}
 use Rattle.cweb_rules.proofs.Raws.{run_all}
@@ -64,7 +64,7 @@ ended Closed h = refl
 ended _ h = cc
 
 literal_case : (v : Bool) (units : List (List ℕ)) (how : End) (b : ℕ) (d more : List ℕ)
-    → Passed (b ∷ d) → Opens (b ∷ d) v → Names (kind.Quoted units how) (b ∷ d) (length (b ∷ d))
+    → IsPast (b ∷ d) → Opens (b ∷ d) v → Names (kind.Quoted units how) (b ∷ d) (length (b ∷ d))
     → is_closed how ≡ true → Names (kind.Quoted units how) (b ∷ d ++ more) (length (b ∷ d))
 literal_case true units how b d more p o e h = grind (arith, ended how h, raw_stays_whole b d more p o)
 literal_case false units how b d more p o e h = grind (arith, ended how h, literal_stays_whole b d more p o.0 o.1)

@@ -1,6 +1,6 @@
 -- Identifiers, numbers and punctuators don't depend on bytes that can't continue them.
-use Rattle.cweb_rules.proofs.Common.{arith, ◌≡◌, ℕ, Bool, true, false, ◌&&◌, ◌==◌, List, [], ◌∷◌, ◌++◌, refl, ap, sym, ◌∙◌, codes, list_all, prefix_len, begins, first_is, is_one_of, is_word_byte, starts_section, in_c, c_match, rule_match, Numeral, Identifier, Punctuator, listed, longest, number_len, JoinsAll, after_word, after_number, or_parts, and-true}
-use Rattle.cweb_rules.proofs.Chosen.{Passed, Facts, ForWord, ForNumber, ForPunct, passed_prefix}
+use Rattle.cweb_rules.proofs.Common.{arith, ◌≡◌, ℕ, Bool, true, false, ◌&&◌, ◌==◌, List, [], ◌∷◌, ◌++◌, refl, ap, sym, ◌∙◌, codes, list_all, prefix_len, begins, first_is, is_one_of, is_word_byte, starts_section, in_c, c_match, rule_match, Numeral, Identifier, Punctuator, listed, longest, number_len, JoinsAll, after_word, after_number, or_parts, and-true, IsPast}
+use Rattle.cweb_rules.proofs.Chosen.{Facts, ForWord, ForNumber, ForPunct}
 use Rattle.cweb_rules.proofs.Raws.{plain_raw, word_raw}
 use Rattle.cweb_rules.proofs.Joins.{unlike, seam_joins, longest_stays}
 use Rattle.cweb_rules.proofs.Seams.{run_stop}
@@ -13,11 +13,11 @@ no_section b (c ∷ t) h = ap (λ v. v && is_one_of (32 ∷ 9 ∷ 10 ∷ 42 ∷ 
 section_stays : (b : ℕ) (t : List ℕ) → begins (codes "@") (b ∷ t) ≡ false → starts_section (b ∷ t) ≡ false
 section_stays b t h = no_section b t (unlike (λ x. 64 == x) b 64 true refl (sym (and-true (64 == b)) ∙ h))
 
-pub passes : (b : ℕ) (t more : List ℕ) → (47 == b) ≡ false → Passed (b ∷ t) → Passed (b ∷ t ++ more)
+pub passes : (b : ℕ) (t more : List ℕ) → (47 == b) ≡ false → IsPast (b ∷ t) → IsPast (b ∷ t ++ more)
 passes b t more e p = grind (arith, section_stays b (t ++ more) p.code)
 
 passes_seam : (joins : ℕ → ℕ → Bool) → JoinsAll joins → (b : ℕ) (t more : List ℕ)
-    → seam_joins joins b t more ≡ false → Passed (b ∷ t) → Passed (b ∷ t ++ more)
+    → seam_joins joins b t more ≡ false → IsPast (b ∷ t) → IsPast (b ∷ t ++ more)
 passes_seam joins all b t more h p = grind (arith, section_stays b (t ++ more) p.code)
 
 not_word : (more : List ℕ) → first_is after_word more ≡ false → first_is is_word_byte more ≡ false
@@ -30,7 +30,7 @@ not_number (c ∷ more) h = (or_parts (after_word c) (is_one_of (codes ".+-") c)
 
 pub word_prefix : (t : List ℕ) → Facts t ForWord
     → c_match in_c false false t ≡ rule_match Identifier (prefix_len is_word_byte t)
-word_prefix t f = cc (passed_prefix t f.0.0)
+word_prefix t f = cc
 
 pub word_stays : (b : ℕ) (t more : List ℕ) → Facts (b ∷ t) ForWord → list_all is_word_byte (b ∷ t) ≡ true
     → first_is after_word more ≡ false → c_match in_c false false (b ∷ t ++ more) ≡ c_match in_c false false (b ∷ t)
@@ -45,7 +45,7 @@ word_stays b t more f all h =
     ∙ sym (word_prefix (b ∷ t) f)
 
 number_prefix : (t : List ℕ) → Facts t ForNumber → c_match in_c false false t ≡ rule_match Numeral (number_len 0 t)
-number_prefix t f = cc (passed_prefix t f.0.0)
+number_prefix t f = cc
 
 pub number_stays : (b : ℕ) (t more : List ℕ) → Facts (b ∷ t) ForNumber → first_is after_number more ≡ false
     → c_match in_c false false (b ∷ t ++ more) ≡ c_match in_c false false (b ∷ t)
@@ -76,7 +76,7 @@ number_stays b t more f h =
     )
 
 punct_prefix : (t : List ℕ) → Facts t ForPunct → c_match in_c false false t ≡ rule_match Punctuator (longest listed t)
-punct_prefix t f = cc (passed_prefix t f.0.0)
+punct_prefix t f = cc
 
 pub punct_stays : (joins : ℕ → ℕ → Bool) → JoinsAll joins → (b : ℕ) (t more : List ℕ) → Facts (b ∷ t) ForPunct
     → seam_joins joins b t more ≡ false → c_match in_c false false (b ∷ t ++ more) ≡ c_match in_c false false (b ∷ t)

@@ -1,5 +1,5 @@
 -- The newlines in lines and units, as far as the kind of the lexeme determines them.
-use Rattle.cweb_rules.proofs.Common.{◌≡◌, ◌≤◌, ◌<◌, ℕ, zero, suc, ◌+◌, ◌-◌, Bool, true, false, List, [], ◌∷◌, ◌++◌, length, take, drop, refl, ap, sym, ◌∙◌, subst, arith, take-append-drop, append_assoc, append-nil, if◌then◌else◌, flat_map, take-add, drop-nil, take-append_seam, ne_eqb, flat_map-append, take-append-le, Reach, reach, reach_in, with_unit, body, reach_size, quoted_match, look_in_raw, Kind, Skipped, Occurrence, LineEnd, Comment, Quoted, RuleMatch, IsLine, at_line_ends, End, Cut, Look, Goes, Ends}
+use Rattle.cweb_rules.proofs.Common.{◌≡◌, ◌≤◌, ◌<◌, ℕ, zero, suc, ◌+◌, ◌-◌, List, [], ◌∷◌, ◌++◌, length, take, drop, refl, ap, sym, ◌∙◌, subst, arith, take-append-drop, append_assoc, append-nil, if◌then◌else◌, flat_map, take-add, drop-nil, take-append_seam, ne_eqb, flat_map-append, take-append-le, Reach, reach, reach_in, with_unit, body, reach_size, quoted_match, Kind, Skipped, Occurrence, LineEnd, Comment, Quoted, RuleMatch, IsLine, at_line_ends, End, Cut, Look, Goes, Ends}
 use Rattle.cweb_rules.proofs.InLines.{InLine, AreLines, IsLine-take}
 use Rattle.cweb_rules.proofs.Looks.{IsSome, AllSome}
 
@@ -83,10 +83,3 @@ quoted-bytes look some n t = grind (arith, flat_map-append, append-nil, drop-sum
 pub quoted-known : (look : List ℕ → Look) → AllSome look → (n : ℕ) (t : List ℕ)
     → Known t (quoted_match n (reach look Cut (drop n t)) t)
 quoted-known look some n t = ap (at_line_ends 1) (quoted-bytes look some n t)
-
-some_if : (v : Bool) (x y : Look) → IsSome x → IsSome y → IsSome (if v then x else y)
-some_if true x y f g = f
-some_if false x y f g = g
-
-pub raw-some : (sign : List ℕ) → AllSome (look_in_raw sign)
-raw-some sign b t = grind (arith, some_if)

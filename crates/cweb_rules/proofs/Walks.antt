@@ -1,14 +1,7 @@
 -- The units of an item, one after another.
-use Rattle.cweb_rules.proofs.Common.{◌≡◌, ◌≤◌, ◌<◌, ℕ, zero, suc, Bool, true, false, ◌==◌, ◌-◌, List, [], ◌∷◌, length, take, drop, ap, sym, ◌∙◌, arith, drop_min, Reach, reach, reach_in, with_unit, End, Look, Goes, Ends, listed, longest, min}
+use Rattle.cweb_rules.proofs.Common.{◌≡◌, ◌≤◌, ◌<◌, ℕ, zero, suc, Bool, true, false, ◌==◌, ◌-◌, List, [], ◌∷◌, length, take, drop, ap, sym, ◌∙◌, arith, drop_min, Reach, reach, reach_in, End, Look, Goes, listed, longest, min, at_start}
 use Rattle.cweb_rules.proofs.Ranges.{reach_in-drop}
 use Rattle.cweb_rules.proofs.TokenSizes.{longest-size}
-
-abbrev pub at_start : (List ℕ → Look) → Look → List ℕ → End → List ℕ → Reach
-at_start look v u e t =
-    elim v [
-      | Goes n ↦ with_unit (take n u) (reach_in look e (n - 1) t)
-      | Ends n how ↦ record { units = []; close = n; how = how }
-    ]
 
 pub take_min : (n : ℕ) (t : List ℕ) → take n t ≡ take (min n (length t)) t
 take_min zero t = let e : min zero (length t) ≡ zero = omega arith in sym (ap (λ k. take k t) e)

@@ -5,8 +5,7 @@ use Rattle.std.specs.List.{fold, prefix_len, position_or_len}
 use Rattle.cweb_rules.specs.declared.constants.Character.{Character}
 use Rattle.cweb_rules.specs.declared.constants.Valued.{Valued}
 use Rattle.cweb_rules.specs.declared.constants.Transliteration.{Transliteration}
-use Rattle.cweb_rules.specs.Bytes.{begins, is_octal, is_hex, is_digit, is_gap, is_replacing, is_line_end}
-use Rattle.cweb_rules.specs.Bytes.{lower}
+use Rattle.cweb_rules.specs.Bytes.{begins, is_octal, is_hex, is_digit, is_gap, is_replacing, is_line_end, lower}
 use Rattle.cweb_rules.specs.Edges.{is_one_of}
 
 -- A character with its code and the bytes that it is written with.

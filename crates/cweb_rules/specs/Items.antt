@@ -2,11 +2,11 @@
 use Rattle.std.specs.Prelude.{ℕ, ◌+◌, ◌-◌, List, [], ◌∷◌, suc, zero, take, length, Bool, ◌||◌, ◌==◌, drop, codes}
 use Rattle.std.specs.Prelude.{if◌then◌else◌, bytes_eq}
 use Rattle.std.specs.List.{flat_map, prefix_len}
-use Rattle.cweb_rules.specs.declared.end.End.{End}
+pub use Rattle.cweb_rules.specs.declared.end.End.{End}
 use Rattle.cweb_rules.specs.declared.look.Look.{Look}
 use Rattle.cweb_rules.specs.declared.look.Look.TheVariants.{Goes, Ends}
 use Rattle.cweb_rules.specs.Bytes.{begins, starts_section, at_line_end, is_gap}
-use Rattle.cweb_rules.specs.declared.end.End.TheVariants.{Closed, Cut, Nested}
+pub use Rattle.cweb_rules.specs.declared.end.End.TheVariants.{Closed, Cut, Nested, Open}
 
 -- The units of an item, the size of its closer, and how it ended.
 pub record Reach : Type 0 where

@@ -3,6 +3,7 @@ pub mod Bytes
 pub mod Codes
 pub mod Items
 pub mod Constants
+pub mod Literals
 pub mod Matches
 pub mod laws
 pub mod inner

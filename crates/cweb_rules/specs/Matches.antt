@@ -1,16 +1,17 @@
 -- The kinds of lexemes, and the next lexeme in each context.
-use Rattle.std.specs.Prelude.{ℕ, Bool, List, Option, ◌+◌, true, false, ◌||◌, ◌&&◌, nat_le, nat_lt, [], ◌∷◌, ◌++◌}
+use Rattle.std.specs.Prelude.{ℕ, Bool, List, Option, ◌+◌, true, false, ◌&&◌, nat_le, nat_lt, [], ◌∷◌, ◌++◌}
 use Rattle.std.specs.Prelude.{length, take, drop, codes, if◌then◌else◌, Some, None}
 use Rattle.std.specs.List.{prefix_len}
-use Rattle.cweb_rules.specs.declared.effect.Effect.{Effect}
+pub use Rattle.cweb_rules.specs.declared.effect.Effect.{Effect}
 use Rattle.cweb_rules.specs.declared.end.End.{End}
 use Rattle.cweb_rules.specs.declared.fault.ScanKind.TheVariants.{ImproperHexNumber}
-use Rattle.cweb_rules.specs.Bytes.{is_blank, is_line_end, is_word_byte, is_delimiter, begins, at_line_end}
+use Rattle.cweb_rules.specs.Bytes.{is_blank, is_line_end, is_word_byte, begins, at_line_end}
 use Rattle.cweb_rules.specs.Bytes.{starts_section, listed, longest, number_len, starts_number}
 use Rattle.cweb_rules.specs.Edges.{first_is}
-use Rattle.cweb_rules.specs.declared.effect.Effect.TheVariants.{Named, Faulty}
-use Rattle.cweb_rules.specs.declared.context.Context.{Context}
-use Rattle.cweb_rules.specs.declared.context.Context.TheVariants.{Limbo, TeX, Definition, Macro, CText}
+pub use Rattle.cweb_rules.specs.declared.effect.Effect.TheVariants.{Named, Faulty, EmitAt, Define, Format, Program}
+pub use Rattle.cweb_rules.specs.declared.effect.Effect.TheVariants.{InsertDefs, Joins}
+pub use Rattle.cweb_rules.specs.declared.context.Context.{Context}
+pub use Rattle.cweb_rules.specs.declared.context.Context.TheVariants.{Limbo, TeX, Definition, Macro, CText}
 use Rattle.cweb_rules.specs.Codes.{in_limbo, in_tex, in_macro, in_c}
 use Rattle.cweb_rules.specs.declared.effect.Effect.TheVariants as effect
 use Rattle.cweb_rules.specs.Constants.{constant, letter}
@@ -19,7 +20,9 @@ use Rattle.cweb_rules.specs.Items.{Reach, body, reach, reach_size, reach_of_comm
 use Rattle.cweb_rules.specs.Items.{look_in_control, look_in_name, look_in_literal, look_in_include, look_in_raw}
 use Rattle.cweb_rules.specs.declared.end.End.TheVariants.{Closed, Cut}
 use Rattle.cweb_rules.specs.declared.constants.TheConstants.{MAX_REPLACEMENT}
-use Rattle.cweb_rules.specs.declared.literals.TheConstants.{MAX_DELIMITER}
+use Rattle.cweb_rules.specs.Literals.{delimiter, literal_prefix, quote_of, raw_closer, raw_prefix, starts_literal, starts_raw}
+use Rattle.cweb_rules.specs.declared.rule.Rule.{Rule}
+use Rattle.cweb_rules.specs.declared.rule.Rule.TheVariants as rule
 
 -- A kind of lexeme, with what the parser needs of its bytes.
 pub data Kind : Type 0 where
@@ -125,57 +128,17 @@ comment_match t = let r = reach_of_comment (drop 2 t) in rule_match (Comment r.h
 abbrev pub line_comment_match : List ℕ → RuleMatch
 line_comment_match t = let r = reach_of_line_comment (drop 2 t) in rule_match (Comment r.how) (2 + reach_size r)
 
--- A quote is at this offset.
-abbrev pub has_quote_at : ℕ → List ℕ → Bool
-has_quote_at n t = begins (codes "\"") (drop n t) || begins (codes "'") (drop n t)
-
--- The length of `L`, `u`, `U` or `u8` before a quote.
-abbrev pub literal_prefix : List ℕ → ℕ
-literal_prefix t =
-    if begins (codes "u8") t && has_quote_at 2 t then 2
-    else (if (begins (codes "L") t || begins (codes "u") t || begins (codes "U") t) && has_quote_at 1 t then 1 else 0)
-
--- A literal begins with a quote, with a prefix or without.
-abbrev pub starts_literal : List ℕ → Bool
-starts_literal t = has_quote_at (literal_prefix t) t
-
 -- A literal with its quotes. Its first unit is the first `n` bytes, up to the opening quote.
 abbrev pub quoted_match : ℕ → Reach → List ℕ → RuleMatch
 quoted_match n r t =
     rule_match (Quoted (take n t ∷ r.units ++ take r.close (drop (n + length (body r)) t) ∷ []) r.how)
     (n + reach_size r)
 
--- The quote that is next: `"` unless it is `'`.
-abbrev pub quote_of : List ℕ → ℕ
-quote_of t = if begins (codes "'") t then 39 else 34
-
 -- A literal with its prefix.
 abbrev pub literal_match : List ℕ → RuleMatch
 literal_match t =
     let n = literal_prefix t in
     quoted_match (n + 1) (reach (look_in_literal (quote_of (drop n t))) Cut (drop (n + 1) t)) t
-
--- The length of `L`, `u`, `U` or `u8` before `R"`.
-abbrev pub raw_prefix : List ℕ → ℕ
-raw_prefix t =
-    if begins (codes "u8R\"") t then 2
-    else (if begins (codes "LR\"") t || begins (codes "uR\"") t || begins (codes "UR\"") t then 1 else 0)
-
--- The longest span of delimiter bytes is short enough, and `(` follows it.
-abbrev pub has_delimiter : List ℕ → Bool
-has_delimiter t = let n = prefix_len is_delimiter t in nat_le n MAX_DELIMITER && begins (codes "(") (drop n t)
-
--- A raw literal begins with `R"`, a delimiter and `(`, with a prefix or without.
-abbrev pub starts_raw : List ℕ → Bool
-starts_raw t = let n = raw_prefix t in begins (codes "R\"") (drop n t) && has_delimiter (drop (n + 2) t)
-
--- The delimiter after `R"`.
-abbrev pub delimiter : List ℕ → List ℕ
-delimiter t = take (prefix_len is_delimiter t) t
-
--- The closer of a raw literal: `)`, the delimiter and `"`.
-abbrev pub raw_closer : List ℕ → List ℕ
-raw_closer t = codes ")" ++ delimiter t ++ codes "\""
 
 -- A raw literal with its prefix.
 abbrev pub raw_match : List ℕ → RuleMatch
@@ -196,21 +159,40 @@ starts_include t = begins (codes "<") t && is_closed (reach look_in_include Cut 
 abbrev pub include_match : List ℕ → RuleMatch
 include_match t = quoted_match 1 (reach look_in_include Cut (drop 1 t)) t
 
--- C text: the first rule that applies.
+-- The first rule of C text that applies.
+abbrev pub c_rule : Bool → List ℕ → Rule
+c_rule includes t =
+    if first_is is_blank t then rule.Blanks
+    else (if first_is is_line_end t then rule.LineEnd
+    else (if begins (codes "/*") t then rule.Comment
+    else (if begins (codes "//") t then rule.LineComment
+    else (if starts_section t then rule.Section
+    else (if begins (codes "@") t then rule.Code
+    else (if starts_raw t then rule.RawLiteral
+    else (if starts_literal t then rule.Literal
+    else (if includes && starts_include t then rule.IncludedName
+    else (if starts_number t then rule.Number
+    else (if first_is is_word_byte t then rule.Identifier
+    else rule.Punctuator))))))))))
+
+-- The lexeme of a rule.
+abbrev pub c_match_by : (ℕ → Effect) → Bool → List ℕ → Rule → RuleMatch
+c_match_by effect with_opener t rule.Blanks = rule_match Blanks (prefix_len is_blank t)
+c_match_by effect with_opener t rule.LineEnd = rule_match LineEnd 1
+c_match_by effect with_opener t rule.Comment = comment_match t
+c_match_by effect with_opener t rule.LineComment = line_comment_match t
+c_match_by effect with_opener t rule.Section = section_match t
+c_match_by effect with_opener t rule.Code = code_match effect with_opener t
+c_match_by effect with_opener t rule.RawLiteral = raw_match t
+c_match_by effect with_opener t rule.Literal = literal_match t
+c_match_by effect with_opener t rule.IncludedName = include_match t
+c_match_by effect with_opener t rule.Number = rule_match Numeral (number_len 0 t)
+c_match_by effect with_opener t rule.Identifier = rule_match Identifier (prefix_len is_word_byte t)
+c_match_by effect with_opener t rule.Punctuator = rule_match Punctuator (longest listed t)
+
+-- The next lexeme of C text.
 abbrev pub c_match : (ℕ → Effect) → Bool → Bool → List ℕ → RuleMatch
-c_match effect with_opener includes t =
-    if first_is is_blank t then rule_match Blanks (prefix_len is_blank t)
-    else (if first_is is_line_end t then rule_match LineEnd 1
-    else (if begins (codes "/*") t then comment_match t
-    else (if begins (codes "//") t then line_comment_match t
-    else (if starts_section t then section_match t
-    else (if begins (codes "@") t then code_match effect with_opener t
-    else (if starts_raw t then raw_match t
-    else (if starts_literal t then literal_match t
-    else (if includes && starts_include t then include_match t
-    else (if starts_number t then rule_match Numeral (number_len 0 t)
-    else (if first_is is_word_byte t then rule_match Identifier (prefix_len is_word_byte t)
-    else rule_match Punctuator (longest listed t)))))))))))
+c_match effect with_opener includes t = c_match_by effect with_opener t (c_rule includes t)
 
 -- A macro is like C text, but `\` before a line end is skipped.
 abbrev pub macro_match : List ℕ → RuleMatch

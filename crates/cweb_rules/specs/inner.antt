@@ -1,4 +1,3 @@
 -- Definitions that only the functions of this crate cite.
 pub mod LineItems
 pub mod Rules
-pub mod WholeLiterals

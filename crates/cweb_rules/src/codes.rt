@@ -2,8 +2,7 @@
 ghost use Rattle.std.specs.Prelude.{◌≡◌};
 ghost use Rattle.cweb_rules.specs.Codes as spec;
 
-use crate::effect::Effect;
-use crate::fault::ScanKind;
+use crate::{Effect, ScanKind};
 
 /// The effect of a code before the first section.
 pub fn in_limbo(letter: u8) -> Effect

@@ -6,8 +6,7 @@ ghost use Rattle.cweb_rules.specs.declared.end.End.TheVariants as how;
 ghost use Rattle.std.specs.List.{prefix_len};
 
 use crate::bytes::{Class, at_line_end, begins, span_len, starts_section};
-use crate::end::End;
-use crate::look::Look;
+use crate::{End, Look};
 
 /// A delimited item, as it is after its opener.
 #[derive(Clone, Copy)]

@@ -2,9 +2,8 @@
 ghost use Rattle.std.specs.Prelude.{◌≡◌, ◌+◌, ℕ, Bool, true, false, List, ◌∷◌, ◌++◌, codes, length};
 ghost use Rattle.std.specs.List.{list_all};
 ghost use Rattle.cweb_rules.specs.Edges.{first_is};
-ghost use Rattle.cweb_rules.specs.laws.Laws.{JoinsAll, IsToken, continues_lexeme, begins_as};
-ghost use Rattle.cweb_rules.specs.laws.Laws.{is_quiet, FitsAndPays, ItemsEndAtTheirFirstEnd};
-ghost use Rattle.cweb_rules.specs.laws.Laws.{RulesPassBytes};
+ghost use Rattle.cweb_rules.specs.laws.Laws.{JoinsAll, IsToken, continues_lexeme, begins_as, is_quiet, FitsAndPays};
+ghost use Rattle.cweb_rules.specs.laws.Laws.{ItemsEndAtTheirFirstEnd, RulesPassBytes};
 ghost use Rattle.cweb_rules.specs.Matches.{match_in, Kind, Comment, rule_match};
 ghost use Rattle.cweb_rules.specs.declared.context.Context.{Context};
 ghost use Rattle.cweb_rules.specs.declared.context.Context.TheVariants.{CText};

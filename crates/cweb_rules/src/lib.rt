@@ -16,8 +16,6 @@ pub mod numbers;
 pub mod punctuators;
 // first bytes of C lexemes
 mod firsts;
-// the quotes of literals
-mod quote;
 // items that end at a closer, unit by unit
 mod end;
 pub mod items;
@@ -40,6 +38,5 @@ pub use end::End;
 pub use fault::{ScanFault, ScanKind};
 pub use firsts::{Plain, first_byte_class, past_blank};
 pub use look::Look;
-pub use quote::Quote;
 pub use units::{continues, push_unit, push_units};
 pub use whole_literals::quoted_len;

@@ -1,6 +1,6 @@
 // How literals of C text begin.
 ghost use Rattle.std.specs.Prelude.{◌≡◌, ◌<◌, ◌+◌, length, true, IfOk, IsTrue};
-ghost use Rattle.cweb_rules.specs.Matches as spec;
+ghost use Rattle.cweb_rules.specs.Literals as spec;
 ghost use Rattle.cweb_rules.specs.inner.LineItems.{raw_opener_len, raw_closer_of, IsSizeIn};
 
 use crate::bytes::{Class, begins, span_len};
@@ -27,6 +27,13 @@ pub fn starts_literal(text: &[u8]) -> bool
 {
     let (_, rest) = text.split_at(literal_prefix(text));
     matches!(rest, [b'"' | b'\'', ..])
+}
+
+/// The quote that is next, `"` unless it is `'`.
+pub fn quote_of(text: &[u8]) -> u8
+    ensures { result ≡ spec.quote_of text.now }
+{
+    if begins(b"'", text) { b'\'' } else { b'"' }
 }
 
 /// The length of `L`, `u`, `U` or `u8` before `R"`.

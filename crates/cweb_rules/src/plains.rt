@@ -26,7 +26,8 @@ fn len_before3(one: u8, other: u8, third: u8, text: &[u8]) -> usize
     memchr3(one, other, third, text).unwrap_or(text.len())
 }
 
-fn plain_in_literal(quote: u8, text: &[u8]) -> usize
+#[inline(always)]
+pub(crate) fn plain_in_literal(quote: u8, text: &[u8]) -> usize
     ensures { IsSizeIn (prefix_len (λ b. not ((b == 64 || b == 92 || b == quote) || b == 10)))
         text.now result }
 {

@@ -2,8 +2,7 @@
 ghost use Rattle.std.specs.Prelude.{◌≡◌, ◌∷◌, []};
 ghost use Rattle.cweb_rules.specs.Bytes.{listed, longest};
 ghost use Rattle.cweb_rules.specs.Edges.{is_one_of};
-ghost use Rattle.cweb_rules.specs.inner.Rules.{begins_pair, begins_triple, is_listed, second_is};
-ghost use Rattle.cweb_rules.specs.inner.Rules.{seconds};
+ghost use Rattle.cweb_rules.specs.inner.Rules.{begins_pair, begins_triple, is_listed, second_is, seconds};
 
 // Whether a byte is the second one of a listed punctuator. Most punctuators in a program have another byte after them.
 fn may_be_second(byte: u8) -> bool

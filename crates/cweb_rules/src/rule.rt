@@ -1,14 +1,12 @@
 // Which rule applies next.
 ghost use Rattle.std.specs.Prelude.{◌≡◌, ◌<◌};
 ghost use Rattle.cweb_rules.specs.Matches as spec;
-ghost use Rattle.cweb_rules.specs.inner.Rules as rules;
 
 use crate::bytes::{Class, begins, starts, starts_section};
-use crate::end::End;
-use crate::firsts::{Plain, first_byte_class};
 use crate::items::{Item, reach};
 use crate::literals::{starts_literal, starts_raw};
 use crate::numbers::starts_number;
+use crate::{End, Plain, first_byte_class};
 
 /// The rules of C text, in the order in which they are tried.
 #[derive(Clone, Copy, Debug, PartialEq, Eq)]
@@ -46,7 +44,7 @@ fn starts_include(text: &[u8]) -> bool
 /// The first rule of C text that applies, `IncludedName` only if `includes` is set. Mostly the first byte decides.
 #[inline(always)]
 pub fn c_rule(includes: bool, text: &[u8]) -> Rule
-    ensures { result ≡ rules.c_rule includes text.now }
+    ensures { result ≡ spec.c_rule includes text.now }
 {
     let [first, ..] = text else {
         return first_rule(includes, text);
@@ -63,7 +61,7 @@ pub fn c_rule(includes: bool, text: &[u8]) -> Rule
 // Slow path: tries each rule in order.
 #[inline(never)]
 fn first_rule(includes: bool, text: &[u8]) -> Rule
-    ensures { result ≡ rules.c_rule includes text.now }
+    ensures { result ≡ spec.c_rule includes text.now }
 {
     if starts(Class::Blank, text) {
         Rule::Blanks

@@ -3,7 +3,7 @@ use Rattle.cweb_files.specs.Shelves.{Observed, ShelfContents, ShelfModel}
 use Rattle.cweb_scan.proofs.Common.{◌≡◌, ◌≤◌, ◌<◌, ℕ, ◌+◌, ◌*◌, List, [], ◌∷◌, ◌++◌, length, Option, None, Some, refl, ap, sym, ◌∙◌, subst, arith, append_assoc, length-append, All-append, All-push, LooksAhead, TakesLines, span_bytes, Line, Event, SoFar, so_far_of, opened_file_names, lines_next, with_newlines, top_of, Ahead, MergeState, OpenSource, ReaderModel, cost, read_after, web_size, read_lines, AreLinesBelow, HasTaken, yields_both}
 use Rattle.cweb_lines.specs.surface.MergeProgress.{EmitsLines}
 use Rattle.cweb_lines.proofs.LinesInBuffer.{standing-append}
-use Rattle.cweb_scan.specs.inner.FastPaths.{ReadsLines}
+use Rattle.cweb_scan.specs.inner.MatchSteps.{ReadsLines}
 use Rattle.cweb_scan.proofs.Scans.{web_size-append, wider}
 
 none : {R : Type 0} (slot : Option (OpenSource R)) → lines_next slot [] ≡ []

@@ -1,9 +1,7 @@
 -- A store has at most as many tokens, and as many bytes, as the web has bytes plus lines.
 use Rattle.cweb_scan.proofs.Common.{◌≡◌, ◌≤◌, ℕ, List, [], ◌∷◌, ◌++◌, Option, Some, None, length, map, refl, arith, length-append, option_to_list, Line, Occurrence, Token, Word, Number, Literal, Verbatim, Punct, Part, all_tokens, Replacement, PartsSoFar, all_parts, finished, ScanState, leave, start_state, Reading, lex, newline_prefixed, read_lines, scanned, sum_over, one, spelling_size, occurrence_size, replacement_size, part_size, open_size, parts_size, token_number, stored_bytes, AddsAtMost, web_size, IsBounded, total-append}
-use Rattle.cweb_store.specs.surface.Names.{occurrence_text}
-use Rattle.cweb_store.specs.surface.Tokens.{token_size}
+use Rattle.cweb_store.specs.surface.Tokens.{occurrence_text, token_size}
 use Rattle.cweb_store.specs.surface.Tokens as kept
-use Rattle.cweb_store.specs.surface.StringTables as words
 use Rattle.cweb_scan.proofs.Adding.{adds, expected_some}
 use Rattle.cweb_scan.proofs.Walked.{run-walks}
 use Rattle.cweb_scan.proofs.Moves.{leave-walks}
@@ -39,16 +37,16 @@ token-bytes (Verbatim b) = omega arith
 token-bytes (Punct b) = omega arith
 token-bytes _ = refl
 
-tokens-bytes : (ts : List Token) → words.total token_size ts ≡ sum_over spelling_size ts
+tokens-bytes : (ts : List Token) → kept.total token_size ts ≡ sum_over spelling_size ts
 tokens-bytes [] = refl
 tokens-bytes (t ∷ ts) = omega (arith, token-bytes t, tokens-bytes ts)
 
-occurrences-bytes : (os : List Occurrence) → words.total length (map occurrence_text os) ≡ sum_over occurrence_size os
+occurrences-bytes : (os : List Occurrence) → kept.total length (map occurrence_text os) ≡ sum_over occurrence_size os
 occurrences-bytes [] = refl
 occurrences-bytes (o ∷ os) = omega (arith, occurrences-bytes os)
 
 replacements-bytes : (rs : List Replacement)
-    → words.total length (map kept.replacement_bytes rs) ≡ sum_over replacement_size rs
+    → kept.total length (map kept.replacement_bytes rs) ≡ sum_over replacement_size rs
 replacements-bytes [] = refl
 replacements-bytes (r ∷ rs) = omega (arith, replacements-bytes rs)
 

@@ -39,10 +39,10 @@ pub use Rattle.cweb_lines.specs.surface.MergerCalls.{stop_in}
 pub use Rattle.cweb_store.specs.Names.{squeezed_after, squeezed, is_abbreviation, Occurrence}
 pub use Rattle.cweb_store.specs.declared.name.How.TheVariants.{Full, Prefix}
 pub use Rattle.cweb_store.specs.declared.name.NameRef.{NameRef}
-pub use Rattle.cweb_store.specs.surface.Names.{too_many}
+pub use Rattle.cweb_store.specs.surface.Tokens.{too_many}
 pub use Rattle.cweb_rules.proofs.FirstBytes.{if_true}
 pub use Rattle.cweb_rules.proofs.InLines.{IsLine-drop, IsLine-take}
-pub use Rattle.cweb_rules.proofs.LineLiterals.{is_quoted-size}
+pub use Rattle.cweb_rules.proofs.TokenSizes.{is_quoted-size}
 pub use Rattle.cweb_rules.proofs.Looks.{comment-units}
 pub use Rattle.cweb_rules.proofs.Reaches.{IsEnd, IsLocal}
 pub use Rattle.cweb_rules.proofs.Seams.{begins_line, in_line, stops}
@@ -55,9 +55,12 @@ pub use Rattle.cweb_rules.specs.Codes.{in_tex, in_macro, in_c}
 pub use Rattle.cweb_rules.specs.Items.{reach_size, Reach, body, with_unit, reach_in, reach, unescaped, look_in_raw}
 pub use Rattle.cweb_rules.specs.Items.{look_in_literal, look_in_comment, unit_bytes, look_in_name, look_in_control}
 pub use Rattle.cweb_rules.specs.Matches.{match_in, code_match, effect_match, section_match, head_match_of, head_match}
-pub use Rattle.cweb_rules.specs.Matches.{c_match, found_letter_match, tex_match, opener_after, raw_prefix, delimiter}
-pub use Rattle.cweb_rules.specs.Matches.{comment_match, line_comment_match, raw_match, literal_match, literal_prefix}
-pub use Rattle.cweb_rules.specs.Matches.{quote_of, quoted_match, starts_raw, starts_literal, starts_include}
+pub use Rattle.cweb_rules.specs.Matches.{c_match, found_letter_match, tex_match, opener_after}
+pub use Rattle.cweb_rules.specs.Literals.{raw_prefix, delimiter}
+pub use Rattle.cweb_rules.specs.Matches.{comment_match, line_comment_match, raw_match, literal_match}
+pub use Rattle.cweb_rules.specs.Literals.{literal_prefix}
+pub use Rattle.cweb_rules.specs.Matches.{quoted_match, starts_include}
+pub use Rattle.cweb_rules.specs.Literals.{quote_of, starts_raw, starts_literal}
 pub use Rattle.cweb_rules.specs.Matches.{include_match, name_match, Lexeme, Skipped, rule_match, Blanks, RuleMatch}
 pub use Rattle.cweb_rules.specs.Matches.{Kind, Section, Code, Letter, ControlText, Constant, LineEnd, Comment, Quoted}
 pub use Rattle.cweb_rules.specs.Matches.{Defined, Identifier, Numeral, Punctuator}
@@ -80,14 +83,11 @@ pub use Rattle.cweb_rules.specs.declared.fault.ScanKind.TheVariants.{DefinitionD
 pub use Rattle.cweb_rules.specs.declared.items.Reached.{Reached}
 pub use Rattle.cweb_rules.specs.declared.look.Look.{Look}
 pub use Rattle.cweb_rules.specs.declared.look.Look.TheVariants.{Goes, Ends}
-pub use Rattle.cweb_rules.specs.declared.quote.Quote.{Quote}
-pub use Rattle.cweb_rules.specs.declared.quote.Quote.TheVariants.{Single, Double}
 pub use Rattle.cweb_rules.specs.declared.rule.Rule.{Rule}
 pub use Rattle.cweb_rules.specs.inner.LineItems.{IsLine, opens_in, opens_code, opens_effect, c_opens, tex_opens}
 pub use Rattle.cweb_rules.specs.inner.LineItems.{AtLineEnd, is_unclosed, reached, MovesOn, is_plain, is_raw_special}
 pub use Rattle.cweb_rules.specs.inner.LineItems.{is_special}
-pub use Rattle.cweb_rules.specs.inner.WholeLiterals.{quote_byte}
-pub use Rattle.cweb_rules.specs.inner.Rules.{c_rule, c_match_by}
+pub use Rattle.cweb_rules.specs.Matches.{c_rule, c_match_by}
 pub use Rattle.cweb_rules.specs.laws.Laws.{JoinsAll, IsToken, is_token, is_quiet, begins_as, owed_tokens, at_line_ends}
 pub use Rattle.cweb_rules.specs.laws.Laws.{Pays}
 pub use Rattle.cweb_store.specs.Calls.{finished, with_dropped, with_open, PartsSoFar, part_with_token, Replacement}
@@ -116,8 +116,8 @@ pub use Rattle.cweb_scan.specs.Lexemes.{is_insignificant, ReadsAlone, doubled, l
 pub use Rattle.cweb_scan.specs.Lexemes.{lexemes_in, lex, scanned, Scanned}
 pub use Rattle.cweb_scan.specs.laws.Laws.{lexemes, next_match, newline_prefixed, IsReadAs, AreLexemes, MarkPasses}
 pub use Rattle.cweb_scan.specs.laws.Laws.{PlacesPass, source_start, newlines, LexemesKeepLines, places}
-pub use Rattle.cweb_scan.specs.DirectiveTokens.{directive_of, directive_tokens, directive_after, is_punct, ends_line}
-pub use Rattle.cweb_scan.specs.DirectiveTokens.{some_include, is_last_blank}
+pub use Rattle.cweb_scan.specs.State.{directive_of, directive_tokens, directive_after, is_punct, ends_line}
+pub use Rattle.cweb_scan.specs.State.{some_include, is_last_blank}
 pub use Rattle.cweb_scan.specs.State.{is_next_line, is_c, directive, in_directive, names_include, name_occurrence}
 pub use Rattle.cweb_scan.specs.State.{ScanState, leave, start_state, emit, drop_definition}
 pub use Rattle.cweb_scan.specs.State.{end_macro, move_to, report, add_name, begin_section, open_part_tokens}
@@ -125,9 +125,10 @@ pub use Rattle.cweb_scan.specs.State.{leave_in, report_at, begin_part, end_part}
 pub use Rattle.cweb_scan.specs.declared.directive.Directive.{Directive}
 pub use Rattle.cweb_scan.specs.declared.directive.Stage.{Stage}
 pub use Rattle.cweb_scan.specs.declared.directive.Stage.TheVariants.{Outside, Bare, Further}
-pub use Rattle.cweb_scan.specs.inner.FastPaths.{ReadsAhead, TakesPlain, IsPlainC, IsPlainToken, HasTaken, is_skipped}
-pub use Rattle.cweb_scan.specs.inner.MatchSteps.{Applies, effect_in, is_head, is_name_effect, reads_c, reads_literals}
-pub use Rattle.cweb_scan.specs.inner.MatchSteps.{IsPast, ended_as, reads_names, starts_name, ends_in_line}
+pub use Rattle.cweb_scan.specs.inner.MatchSteps.{ReadsAhead, TakesPlain, IsPlainC, IsPlainToken, HasTaken, is_skipped}
+pub use Rattle.cweb_scan.specs.inner.MatchSteps.{Applies, effect_in, is_head, is_name_effect, reads_c}
+pub use Rattle.cweb_rules.specs.inner.LineItems.{IsPast}
+pub use Rattle.cweb_scan.specs.inner.MatchSteps.{ended_as, reads_names, starts_name, ends_in_line}
 pub use Rattle.cweb_scan.specs.inner.MatchSteps.{needs_two, AppliesOver, passed}
 pub use Rattle.cweb_scan.specs.inner.ReaderModel.{ReaderModel, OpenItem, Between, Pending, is_pending, pending_text}
 pub use Rattle.cweb_scan.specs.inner.ReaderModel.{pending_places, with_line, cost, read_after, TakesPrefix, read_on}

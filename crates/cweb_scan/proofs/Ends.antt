@@ -9,7 +9,7 @@ use Rattle.cweb_rules.specs.inner.LineItems.{look_of}
 use Rattle.cweb_rules.proofs.Looks.{all_some, IsSome, AllSome, control-units, name-units, comment-units}
 use Rattle.cweb_rules.proofs.Looks.{include-units, raw-units, literal-some}
 use Rattle.cweb_rules.proofs.Lasts.{reach-fits}
-pub use Rattle.cweb_rules.proofs.Walks.{at_start}
+pub use Rattle.cweb_rules.proofs.ItemReaches.{at_start}
 
 abbrev pub at_end : End → Reach → Reach
 at_end e r = record { units = r.units; close = r.close; how = ended_as e r.how }

@@ -8,8 +8,9 @@ use Rattle.cweb_scan.proofs.InLineItemSteps.{closed_at}
 use Rattle.cweb_scan.proofs.Ends.{how-at_end, line_comment_yields, none_to_come, size-at_end}
 use Rattle.cweb_scan.proofs.PendingComments.{comment_goes_on}
 use Rattle.cweb_scan.proofs.Plains.{none_open, rule_at, turn}
-use Rattle.cweb_scan.proofs.RestByLexemes.{c_is, c_opens_is}
-use Rattle.cweb_scan.proofs.FirstMatchTaken.{between, opens_by}
+use Rattle.cweb_rules.proofs.FirstRules.{c_opens-by}
+use Rattle.cweb_rules.specs.inner.LineItems.{opens_by}
+use Rattle.cweb_scan.proofs.FirstMatchTaken.{between}
 use Rattle.cweb_rules.proofs.Longest.{longest_pos}
 use Rattle.cweb_rules.proofs.PlainSpans.{turned}
 
@@ -23,7 +24,8 @@ rule_plain s u r h is = grind (arith, none_included, none_open, and-false)
 
 ends_by : (c : Context) (includes : Bool) (u : List ℕ) (r : Rule) → c ≡ CText → r ≡ c_rule (is_c c && includes) u
     → opens_by in_c u r ≡ false → (match_in c includes u ≡ c_match_by in_c false u r) × (opens_in c u ≡ false)
-ends_by CText includes u r h is ends = grind (arith, c_is, c_opens_is)
+ends_by CText includes u r h is ends =
+    (ap (c_match_by in_c false u) (sym is), c_opens-by in_c includes u ∙ ap (opens_by in_c u) (sym is) ∙ ends)
 ends_by _ includes u r h is ends = cc
 
 -- An item that may continue after its line, but ends in it.

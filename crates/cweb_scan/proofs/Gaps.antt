@@ -1,11 +1,13 @@
 -- Blanks between two lexemes of C text.
-use Rattle.cweb_scan.proofs.Common.{◌≡◌, ℕ, suc, Bool, true, false, ◌&&◌, List, [], ◌∷◌, drop, take, refl, ap, sym, ◌∙◌, arith, if◌then◌else◌, not, prefix_len, is_blank, match_in, Blanks, rule_match, Context, CText, Blank, Reading, after_lexeme, blank, enter_in, directive, in_directive, names_include, lex, ScanState, emit, if_true}
-use Rattle.cweb_scan.specs.DirectiveTokens as spec
+use Rattle.cweb_scan.proofs.Common.{◌≡◌, ℕ, suc, Bool, true, false, ◌&&◌, List, [], ◌∷◌, drop, take, refl, ap, sym, ◌∙◌, arith, if◌then◌else◌, not, prefix_len, is_blank, match_in, Blanks, rule_match, Context, CText, Blank, Reading, after_lexeme, blank, enter_in, directive, in_directive, names_include, lex, ScanState, emit, if_true, in_c, c_match_by}
+use Rattle.cweb_rules.specs.declared.rule.Rule.TheVariants as rule
+use Rattle.cweb_scan.specs.State as spec
 use Rattle.cweb_scan.proofs.TakenItems.{run_as}
 
 blank_prefix : (c : Context) (includes : Bool) (b : ℕ) (t : List ℕ) → c ≡ CText → is_blank b ≡ true
     → match_in c includes (b ∷ t) ≡ rule_match Blanks (prefix_len is_blank (b ∷ t))
-blank_prefix c includes b t h e = ap (λ c. match_in c includes (b ∷ t)) h ∙ if_true (is_blank b) _ _ e
+blank_prefix c includes b t h e = ap (λ c. match_in c includes (b ∷ t)) h
+    ∙ ap (c_match_by in_c false (b ∷ t)) (if_true (is_blank b) rule.Blanks _ e)
 
 longer_prefix : (b : ℕ) (t : List ℕ) → is_blank b ≡ true → prefix_len is_blank (b ∷ t) ≡ suc (prefix_len is_blank t)
 longer_prefix b t e = grind (arith, e)

@@ -1,9 +1,11 @@
 -- Lexemes that may occur in a head.
 use Rattle.cweb_scan.proofs.Common.{◌≡◌, ◌≤◌, ℕ, Bool, true, false, ◌&&◌, ◌||◌, not, List, [], ◌∷◌, length, refl, ap, sym, ◌∙◌, if◌then◌else◌, codes, prefix_len, eqb-true, Place, begins, is_blank, starts_section, in_tex, in_macro, match_in, head_match_of, head_match, Blanks, RuleMatch, rule_match, IsLine, opens_in, c_opens, opens_code, tex_opens, c_rule, c_match_by, Context, Definition, Rule, blank, enter_in, stays_in_head, directive, is_c, is_some, names_include, Applies, ReaderModel, MakesProgress, Between, next_match, ScanState, drop_definition, emit, arith}
 use Rattle.cweb_rules.specs.declared.rule.Rule.TheVariants as rule
-use Rattle.cweb_scan.specs.DirectiveTokens as directives
+use Rattle.cweb_scan.specs.State as directives
 use Rattle.cweb_scan.proofs.InLineItemSteps.{at_item, staying_at}
-use Rattle.cweb_scan.proofs.FirstMatchTaken.{opens_by, c_opens-by, neither}
+use Rattle.cweb_rules.specs.inner.LineItems.{opens_by}
+use Rattle.cweb_rules.proofs.FirstRules.{c_opens-by}
+use Rattle.cweb_scan.proofs.FirstMatchTaken.{neither}
 use Rattle.cweb_store.specs.Parts as parts
 use Rattle.cweb_scan.proofs.HeadSteps.{by_rule}
 

@@ -1,12 +1,9 @@
 -- Lexemes that end a head.
-use Rattle.cweb_scan.proofs.Common.{◌≡◌, ◌≤◌, ℕ, Bool, true, false, List, [], ◌∷◌, ◌++◌, Option, Some, None, length, drop, take, refl, ap, sym, ◌∙◌, subst, arith, if◌then◌else◌, codes, Place, is_digit, in_tex, in_macro, match_in, c_match, code_match, effect_match, head_match_of, head_match, found_letter_match, section_match, tex_match, Kind, Blanks, LineEnd, Comment, Defined, Identifier, RuleMatch, AtLineEnd, c_rule, c_match_by, Transliteration, Context, Definition, Effect, Rule, enter_in, item, stays_in_head, names_include, ReaderModel, MakesProgress, Between, lex, ScanState, drop_definition}
+use Rattle.cweb_scan.proofs.Common.{◌≡◌, ◌≤◌, ℕ, Bool, true, false, List, [], ◌∷◌, ◌++◌, Option, Some, None, length, drop, take, refl, ap, sym, ◌∙◌, subst, arith, if◌then◌else◌, Place, in_tex, in_macro, match_in, c_match, code_match, effect_match, head_match_of, head_match, found_letter_match, section_match, tex_match, Kind, Blanks, LineEnd, Comment, Defined, Identifier, RuleMatch, AtLineEnd, c_rule, c_match_by, Transliteration, Context, Definition, Effect, Rule, enter_in, item, stays_in_head, names_include, ReaderModel, MakesProgress, Between, lex, ScanState, drop_definition}
 use Rattle.cweb_rules.specs.Constants.{letter}
 use Rattle.cweb_rules.specs.declared.effect.Effect.TheVariants as effect
 use Rattle.cweb_rules.specs.declared.rule.Rule.TheVariants as rule
-use Rattle.cweb_rules.proofs.ByRules.{c_prefix-by}
-use Rattle.cweb_rules.proofs.LineLiterals.{starts_literal_line}
-use Rattle.cweb_rules.proofs.LineDelimiters.{starts_raw_line}
-use Rattle.cweb_rules.proofs.Seams.{begins_line, starts_number_stop, starts_section_line, stops}
+use Rattle.cweb_rules.proofs.LineMatches.{rule_line}
 use Rattle.cweb_scan.proofs.InLineItemSteps.{at_item}
 use Rattle.cweb_scan.proofs.RuleSteps.{is_ended}
 use Rattle.cweb_scan.proofs.TakenItems.{reading, run_as}
@@ -68,19 +65,7 @@ foreign_rule v _ b c l n e = refl
 
 pub by_rule : (v : List ℕ) (r : Rule) → r ≡ c_rule false v
     → c_match in_macro true false v ≡ c_match_by in_macro true v r
-by_rule v r is = c_prefix-by in_macro true false v ∙ ap (c_match_by in_macro true v) (sym is)
-
--- The rule in a line doesn't depend on the bytes after it.
-rule_line : (b : ℕ) (t more : List ℕ) → AtLineEnd more → c_rule false (b ∷ t ++ more) ≡ c_rule false (b ∷ t)
-rule_line b t more e = rw (
-  begins_line (codes "/*") (b ∷ t) more refl e,
-  begins_line (codes "//") (b ∷ t) more refl e,
-  starts_section_line b t more e,
-  begins_line (codes "@") (b ∷ t) more refl e,
-  starts_raw_line (b ∷ t) more e,
-  starts_literal_line (b ∷ t) more e,
-  starts_number_stop b t more (stops is_digit more refl e),
-)
+by_rule v r is = ap (c_match_by in_macro true v) (sym is)
 
 -- A lexeme that ends a head is read as in TeX, after the definition is dropped.
 dropped_run : (s : ScanState) (begun : Place) (later : List Place) (b : ℕ) (t : List ℕ)
@@ -105,7 +90,7 @@ dropped_line s begun later (b ∷ t) more r in_head some e is left =
     let v = b ∷ t ++ more in
     let f = c_match in_macro true false v in
     dropped_run s begun later b (t ++ more) in_head
-    (head_text f.kind f v (ap foreign (by_rule v r (is ∙ sym (rule_line b t more e))) ∙ left v))
+    (head_text f.kind f v (ap foreign (by_rule v r (is ∙ sym (rule_line false b t more e))) ∙ left v))
 
 dropped_passes : (n : ℕ) (u : List ℕ) (h v new : ReaderModel) (begun : Place) (r : Rule) → v ≡ h
     → h.item ≡ Between → h.state.context ≡ Definition begun → 1 ≤ length u → r ≡ c_rule false u

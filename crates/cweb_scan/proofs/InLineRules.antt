@@ -1,9 +1,10 @@
 -- Lexemes of macros and C text that end in their line.
-use Rattle.cweb_scan.proofs.Common.{◌≡◌, ℕ, Bool, true, false, ◌&&◌, List, refl, ap, sym, ◌∙◌, if◌then◌else◌, in_macro, in_c, match_in, opens_in, c_opens, c_rule, c_match_by, Context, Macro, CText, Effect, Rule, is_c, in_open_part, arith}
+use Rattle.cweb_scan.proofs.Common.{◌≡◌, ℕ, Bool, true, false, ◌&&◌, List, refl, ap, sym, ◌∙◌, if◌then◌else◌, in_macro, in_c, match_in, opens_in, c_opens, c_rule, c_match_by, Context, Macro, CText, Effect, Rule, is_c, in_open_part}
 use Rattle.cweb_scan.specs.inner.MatchSteps.{ends_macro_line}
 use Rattle.cweb_rules.specs.declared.rule.Rule.TheVariants as rule
-use Rattle.cweb_scan.proofs.RestByLexemes.{c_is, c_opens_is, macro_is}
-use Rattle.cweb_scan.proofs.FirstMatchTaken.{opens_by, c_opens-by}
+use Rattle.cweb_scan.proofs.RestByLexemes.{macro_is}
+use Rattle.cweb_rules.specs.inner.LineItems.{opens_by}
+use Rattle.cweb_rules.proofs.FirstRules.{c_opens-by}
 
 -- The rules of `ends_in_line`, and section starts.
 abbrev pub closes : Rule → Bool
@@ -35,5 +36,8 @@ rule_closed Macro includes u r part plain is h =
       ap (λ v. if v then false else c_opens in_macro u) plain
           ∙ c_opens-by in_macro false u ∙ ap (opens_by in_macro u) (sym is) ∙ p.1,
     )
-rule_closed CText includes u r part plain is h = grind (arith, closed_prefix, c_is, c_opens_is)
+rule_closed CText includes u r part plain is h = (
+  ap (c_match_by in_c false u) (sym is),
+  c_opens-by in_c includes u ∙ ap (opens_by in_c u) (sym is) ∙ (closed_prefix in_c false u r h).1,
+)
 rule_closed _ includes u r part plain is h = cc

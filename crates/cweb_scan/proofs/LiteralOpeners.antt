@@ -1,9 +1,9 @@
 -- The rule of a literal.
-use Rattle.cweb_scan.proofs.Common.{◌≡◌, ℕ, Bool, true, false, List, ◌∷◌, ◌++◌, refl, codes, enter_in, begins, Effect, in_macro, in_c, reads_literals, IsPast, raw_match, literal_match, c_match, starts_raw, starts_literal, End, Quoted, RuleMatch, takes_opener, match_in, Context, Macro, CText, ScanState, AtLineEnd, arith}
+use Rattle.cweb_scan.proofs.Common.{◌≡◌, ℕ, Bool, true, false, List, ◌∷◌, ◌++◌, refl, codes, enter_in, begins, Effect, in_macro, in_c, in_open_part, IsPast, raw_match, literal_match, c_match, starts_raw, starts_literal, End, Quoted, RuleMatch, takes_opener, match_in, Context, Macro, CText, ScanState, AtLineEnd, arith}
 use Rattle.cweb_rules.proofs.Seams.{begins_line, starts_section_line}
 
 pub enter_quoted : (c : Context) (us : List (List ℕ)) (how : End) (s : ScanState)
-    → reads_literals c ≡ true → enter_in c (Quoted us how) s ≡ s
+    → in_open_part c ≡ true → enter_in c (Quoted us how) s ≡ s
 enter_quoted Macro us how s h = refl
 enter_quoted _ us how s h = cc
 
@@ -19,7 +19,7 @@ pub past-line : (b : ℕ) (t more : List ℕ) → AtLineEnd more → IsPast (b �
 past-line b t more e p = grind (arith, begins_line, starts_section_line)
 
 pub literal_first : (c : Context) (includes : Bool) (b : ℕ) (t : List ℕ) (f : RuleMatch)
-    → reads_literals c ≡ true → begins (codes "\\") (b ∷ t) ≡ false
+    → in_open_part c ≡ true → begins (codes "\\") (b ∷ t) ≡ false
     → ((effect : ℕ → Effect) (takes_opener includes : Bool) → c_match effect takes_opener includes (b ∷ t) ≡ f)
     → match_in c includes (b ∷ t) ≡ f
 literal_first Macro includes b t f h g k = grind (arith, g, k in_macro true false)

@@ -4,7 +4,8 @@ use Rattle.cweb_scan.proofs.OpeningSteps.{opened}
 use Rattle.cweb_rules.specs.inner.LineItems.{goes_on, opens_comment, opens_name, opens_literal, opens_raw}
 use Rattle.cweb_rules.specs.inner.LineItems.{raw_closer_of}
 use Rattle.cweb_rules.proofs.LineDelimiters.{starts_raw_line}
-use Rattle.cweb_rules.proofs.LineLiterals.{is_quoted-size, starts_literal_line}
+use Rattle.cweb_rules.proofs.LineLiterals.{starts_literal_line}
+use Rattle.cweb_rules.proofs.TokenSizes.{is_quoted-size}
 use Rattle.cweb_rules.proofs.Sizes.{begins-size}
 use Rattle.std.proofs.Common.{take_all}
 use Rattle.cweb_scan.specs.declared.reader.open.Open as code

@@ -1,8 +1,10 @@
 -- Literals that are open at the end of their line.
-use Rattle.cweb_scan.proofs.Common.{ℕ, ◌≡◌, ◌≤◌, ◌+◌, Bool, true, false, List, [], ◌∷◌, ◌++◌, length, drop, refl, ap, ◌∙◌, arith, codes, length-drop, drop-append-le, begins, look_in_literal, look_in_raw, reach, reach_size, raw_match, literal_match, literal_prefix, quote_of, raw_prefix, starts_raw, starts_literal, RuleMatch, Quoted, End, Cut, Open, AtLineEnd, IsLocal, is_unclosed, opens_in, c_opens, Context, Macro, CText, enter_in, names_include, ScanState, reads_literals, IsPast, with_line, in_c, and_parts, Effect, c_match, rule_match}
+use Rattle.cweb_scan.proofs.Common.{ℕ, ◌≡◌, ◌≤◌, ◌+◌, Bool, true, false, List, [], ◌∷◌, ◌++◌, length, drop, refl, ap, ◌∙◌, arith, codes, length-drop, drop-append-le, begins, look_in_literal, look_in_raw, reach, reach_size, raw_match, literal_match, literal_prefix, quote_of, raw_prefix, starts_raw, starts_literal, RuleMatch, Quoted, End, Cut, Open, AtLineEnd, IsLocal, is_unclosed, opens_in, c_opens, Context, Macro, CText, enter_in, names_include, ScanState, in_open_part, IsPast, with_line, in_c, and_parts, Effect, c_match, rule_match}
 use Rattle.cweb_rules.specs.inner.LineItems.{opens_raw, opens_literal, goes_on, raw_opener_len, raw_closer_of}
-use Rattle.cweb_rules.proofs.LineDelimiters.{raw_prefix-line, delimiter-line, sign-fits, has_delimiter-size, closing_sign-in_line}
-use Rattle.cweb_rules.proofs.LineLiterals.{literal_prefix-line, is_quoted-size}
+use Rattle.cweb_rules.proofs.LineDelimiters.{raw_prefix-line, delimiter-line, sign-fits, closing_sign-in_line}
+use Rattle.cweb_rules.proofs.TokenSizes.{has_delimiter-size}
+use Rattle.cweb_rules.proofs.LineLiterals.{literal_prefix-line}
+use Rattle.cweb_rules.proofs.TokenSizes.{is_quoted-size}
 use Rattle.cweb_rules.proofs.Looks.{raw-local, raw-units}
 use Rattle.cweb_rules.proofs.Seams.{drop_line}
 use Rattle.cweb_scan.proofs.CrossedLineEnds.{CrossesNewline, crosses, literal_crosses}
@@ -20,7 +22,7 @@ pub raw_fits : (w : List ℕ) → starts_raw w ≡ true → raw_opener_len w ≤
 raw_fits w starts = grind (arith, and_parts, sign-fits, has_delimiter-size, length-drop)
 
 -- A literal in a macro or in C text.
-opens_first : (c : Context) (b : ℕ) (t : List ℕ) (v : Bool) → reads_literals c ≡ true
+opens_first : (c : Context) (b : ℕ) (t : List ℕ) (v : Bool) → in_open_part c ≡ true
     → begins (codes "\\") (b ∷ t) ≡ false → ((effect : ℕ → Effect) → c_opens effect (b ∷ t) ≡ v)
     → opens_in c (b ∷ t) ≡ v
 opens_first Macro b t v h g k = grind arith
@@ -28,7 +30,7 @@ opens_first CText b t v h g k = k in_c
 opens_first _ b t v h g k = cc
 
 is_quoted : (s : ScanState) (b : ℕ) (t : List ℕ) (us : List (List ℕ)) (how : End) (n : ℕ) (opens : Bool)
-    → reads_literals s.context ≡ true → begins (codes "\\") (b ∷ t) ≡ false
+    → in_open_part s.context ≡ true → begins (codes "\\") (b ∷ t) ≡ false
     → ((effect : ℕ → Effect) (takes includes : Bool) → c_match effect takes includes (b ∷ t)
     ≡ rule_match (Quoted us how) n) → ((effect : ℕ → Effect) → c_opens effect (b ∷ t) ≡ opens)
     → IsNext s (b ∷ t) (rule_match (Quoted us how) n) opens
@@ -39,14 +41,14 @@ is_quoted s b t us how n opens c back rule none =
       stays = ap (λ (v : RuleMatch). enter_in s.context v.kind s) is ∙ enter_quoted s.context us how s c;
     }
 
-pub is_raw : (s : ScanState) (u : List ℕ) → reads_literals s.context ≡ true → IsPast u → starts_raw u ≡ true
+pub is_raw : (s : ScanState) (u : List ℕ) → in_open_part s.context ≡ true → IsPast u → starts_raw u ≡ true
     → IsNext s u (raw_match u) (opens_raw u)
 is_raw s [] c past starts = let wrong : false ≡ true = starts in cc
 is_raw s (b ∷ t) c past starts = is_quoted s b t _ _ _ (opens_raw (b ∷ t)) c (not_back starts_raw b t refl starts)
     (λ effect takes includes. c_prefix_raw effect takes includes (b ∷ t) past starts)
     (λ effect. rw (past.blank, past.line_end, past.comment, past.line_comment, past.section, past.code, starts) refl)
 
-pub is_literal : (s : ScanState) (u : List ℕ) → reads_literals s.context ≡ true → IsPast u → starts_raw u ≡ false
+pub is_literal : (s : ScanState) (u : List ℕ) → in_open_part s.context ≡ true → IsPast u → starts_raw u ≡ false
     → starts_literal u ≡ true → IsNext s u (literal_match u) (opens_literal u)
 is_literal s [] c past raw starts = let wrong : false ≡ true = starts in cc
 is_literal s (b ∷ t) c past raw starts = is_quoted s b t _ _ _ (opens_literal (b ∷ t)) c

@@ -1,6 +1,6 @@
 -- C text outside directives: consecutive lexemes.
 use Rattle.cweb_scan.proofs.Common.{◌≡◌, ◌≤◌, ℕ, ◌+◌, ◌-◌, ◌*◌, false, List, Option, Some, None, length, drop, ap, sym, ◌∙◌, subst, arith, length-drop, IsLine, TakesPrefix, TakesPlain, weight, ScanState, IsLine-drop, drop-sum}
-use Rattle.cweb_scan.specs.inner.FastPaths.{taken_size}
+use Rattle.cweb_scan.specs.inner.MatchSteps.{taken_size}
 use Rattle.cweb_scan.proofs.RestByLexemes.{takes_both}
 use Rattle.cweb_scan.proofs.FirstMatchTaken.{between}
 

@@ -4,7 +4,7 @@ use Rattle.cweb_rules.specs.declared.rule.Rule.TheVariants as rule
 use Rattle.cweb_rules.proofs.Sizes.{begins-size}
 use Rattle.cweb_scan.proofs.InLineItemSteps.{closed_at}
 use Rattle.cweb_scan.proofs.Ends.{none_to_come}
-use Rattle.cweb_scan.proofs.FirstMatchTaken.{IsSeen, seen}
+use Rattle.cweb_rules.proofs.FirstRules.{IsFirst, first_rule, seen}
 use Rattle.cweb_scan.proofs.InLineRules.{closes}
 
 -- In a part no head is open.
@@ -26,14 +26,14 @@ no_line_end (b ∷ t) h = ne_eqb b 10 h.0
 
 -- A line has no newline.
 pub rule_in_line : (includes : Bool) (u : List ℕ) → IsLine u → is_ended (c_rule includes u) ≡ false
-rule_in_line includes u line = by (c_rule includes u) (seen includes u _ refl)
+rule_in_line includes u line = by (c_rule includes u) (first_rule includes u)
   where
-    by : (r : Rule) → IsSeen u r → is_ended r ≡ false
+    by : (r : Rule) → IsFirst includes u r → is_ended r ≡ false
     by rule.LineEnd s = let wrong : true ≡ false = sym s ∙ no_line_end u line in cc
     by _ s = refl
 
 pub two_fit : (includes : Bool) (u : List ℕ) (r : Rule) → r ≡ c_rule includes u → needs_two r ≡ true → 2 ≤ length u
-two_fit includes u rule.LineComment is h = begins-size (codes "//") u (seen includes u rule.LineComment (sym is))
+two_fit includes u rule.LineComment is h = begins-size (codes "//") u (seen includes u rule.LineComment (sym is)).1
 two_fit includes u _ is h = cc
 
 -- The rules other than those of openers, sections and codes.

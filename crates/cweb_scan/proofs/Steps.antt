@@ -2,12 +2,12 @@
 use Rattle.cweb_scan.proofs.Common.{◌≡◌, Bool, true, false, not, List, [], ◌∷◌, ◌++◌, Option, Some, None, refl, ap, sym, ◌∙◌, codes, bytes_eq, if◌then◌else◌, Token, Word, Punct, Blank, Newline, Stage, is_some, arith}
 use Rattle.std.proofs.lemmas.List.Sums.{fold-append}
 use Rattle.cweb_scan.specs.declared.directive.Stage.TheVariants.{Outside, Bare, Include, Further}
-use Rattle.cweb_scan.specs.DirectiveTokens.{is_bare_include, is_punct, ends_line, directive_tokens, directive_after, directive_of, some_include, is_line_continued}
+use Rattle.cweb_scan.specs.State.{is_bare_include, is_punct, ends_line, directive_tokens, directive_after, directive_of, some_include, is_line_continued}
 use Rattle.cweb_scan.specs.inner.ScanParts.{is_bare, last_kind, maybe_last_kind, stage_of, directive_model}
 use Rattle.cweb_scan.specs.inner.ScanParts.{is_after_line_end, is_after_backslash, is_outside, is_bare_stage}
 use Rattle.cweb_scan.specs.inner.ScanParts.{is_include_stage, next_open_stage, next_stage, after_token}
 use Rattle.cweb_scan.specs.declared.directive.Last.TheVariants as last
-use Rattle.cweb_scan.specs.DirectiveTokens as spec
+use Rattle.cweb_scan.specs.State as spec
 use Rattle.cweb_scan.specs.inner.ScanParts as kept
 
 other_last : (v : Bool) → is_after_line_end (if v then last.Backslash else last.Other) ≡ false

@@ -3,29 +3,29 @@ use Rattle.std.specs.Prelude.{ℕ, Bool, true, false, ◌||◌, ◌&&◌, not, L
 use Rattle.std.specs.Prelude.{bytes_eq, Option, Some, None}
 use Rattle.std.specs.List.{fold}
 use Rattle.std.specs.Fmt.{decimal}
+use Rattle.cweb_store.specs.Parts.{Token, Word, Number, Literal, Verbatim, Punct, Blank, Newline, Join, Defs, Name}
+use Rattle.cweb_store.specs.Parts.{Mark}
 use Rattle.cweb_files.specs.declared.place.Place.{Place}
 use Rattle.cweb_store.specs.declared.name.NameRef.{NameRef}
 use Rattle.cweb_store.specs.declared.parts.PartKind.TheVariants as part
-use Rattle.cweb_store.specs.Parts.{Token, Word, Number, Literal, Verbatim, Punct, Blank, Newline, Join, Defs, Name}
-use Rattle.cweb_store.specs.Parts.{Mark}
 use Rattle.cweb_store.specs.Calls.{with_open, with_dropped, with_replacement}
 use Rattle.cweb_rules.specs.declared.fault.ScanKind.TheVariants.{ReplacementTooLong, NameDidNotEnd, NamesDoNotNest}
 use Rattle.cweb_rules.specs.declared.fault.ScanKind.TheVariants.{CommentDidNotEnd, StringDidNotEnd, DoubleAtInString}
 use Rattle.cweb_rules.specs.declared.fault.ScanKind.TheVariants.{ControlTextDidNotEnd, FaultyConstant, MissingAt}
 use Rattle.cweb_rules.specs.Bytes.{is_line_end}
-use Rattle.cweb_rules.specs.declared.effect.Effect.{Effect}
-use Rattle.cweb_rules.specs.declared.effect.Effect.TheVariants.{Define, Format, Program, InsertDefs}
-use Rattle.cweb_rules.specs.declared.effect.Effect.TheVariants.{Joins, EmitAt, Faulty}
-use Rattle.cweb_scan.specs.State.{is_next_line, in_directive, directive, name_occurrence, ScanState, emit, add_name}
-use Rattle.cweb_scan.specs.State.{report_at, report, move_to, begin_part, end_macro, drop_definition, begin_section}
-use Rattle.cweb_scan.specs.DirectiveTokens.{is_punct, is_last_blank}
-use Rattle.cweb_rules.specs.declared.end.End.{End}
-use Rattle.cweb_rules.specs.declared.end.End.TheVariants.{Closed, Cut, Nested}
-use Rattle.cweb_rules.specs.Items.{unescaped}
 use Rattle.cweb_rules.specs.Matches.{Kind, Lexeme}
-use Rattle.cweb_rules.specs.Matches as kind
+use Rattle.cweb_rules.specs.declared.effect.Effect.{Effect}
 use Rattle.cweb_rules.specs.declared.context.Context.{Context}
 use Rattle.cweb_rules.specs.declared.context.Context.TheVariants.{TeX, Definition, Macro, CText}
+use Rattle.cweb_rules.specs.declared.effect.Effect.TheVariants.{Define, Format, Program, InsertDefs, Joins, EmitAt}
+use Rattle.cweb_rules.specs.declared.effect.Effect.TheVariants.{Faulty}
+use Rattle.cweb_scan.specs.State.{is_next_line, in_directive, directive, name_occurrence, ScanState, emit, add_name}
+use Rattle.cweb_scan.specs.State.{report_at, report, move_to, begin_part, end_macro, drop_definition, begin_section}
+use Rattle.cweb_scan.specs.State.{is_punct, is_last_blank}
+use Rattle.cweb_rules.specs.Items.{unescaped}
+use Rattle.cweb_rules.specs.declared.end.End.{End}
+use Rattle.cweb_rules.specs.declared.end.End.TheVariants.{Closed, Cut, Nested}
+use Rattle.cweb_rules.specs.Matches as kind
 
 -- The token of a newline in a C part, if the next line is at this place.
 abbrev pub line_end_token : Place → ScanState → Token

@@ -5,12 +5,11 @@ use Rattle.std.specs.List.{flat_map, list_all, fold}
 use Rattle.cweb_store.specs.Parts.{Part, Token, Word, Number, Literal, Punct, is_layout, is_comment}
 use Rattle.cweb_rules.specs.Matches.{match_in, Kind, Quoted, Identifier, Numeral, Punctuator, Code, rule_match, Lexeme}
 use Rattle.cweb_rules.specs.Items.{unescaped}
-use Rattle.cweb_rules.specs.declared.context.Context.TheVariants.{CText}
-use Rattle.cweb_rules.specs.declared.effect.Effect.TheVariants.{EmitAt}
 use Rattle.cweb_rules.specs.declared.end.End.{End}
 use Rattle.cweb_rules.specs.declared.end.End.TheVariants.{Closed}
-use Rattle.cweb_scan.specs.State.{directive, ScanState, open_part_tokens, names_include, start_state, leave}
-use Rattle.cweb_scan.specs.DirectiveTokens.{is_punct}
+use Rattle.cweb_rules.specs.declared.context.Context.TheVariants.{CText}
+use Rattle.cweb_rules.specs.declared.effect.Effect.TheVariants.{EmitAt}
+use Rattle.cweb_scan.specs.State.{directive, ScanState, open_part_tokens, names_include, start_state, leave, is_punct}
 use Rattle.cweb_lines.specs.Lines.{Line}
 use Rattle.cweb_store.specs.Calls.{Stored, finished}
 use Rattle.cweb_rules.specs.declared.fault.ScanFault.{ScanFault}

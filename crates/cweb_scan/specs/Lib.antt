@@ -1,4 +1,3 @@
-pub mod DirectiveTokens
 pub mod State
 pub mod Effects
 pub mod Lexemes

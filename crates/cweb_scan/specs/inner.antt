@@ -2,5 +2,4 @@
 pub mod PendingItems
 pub mod ReaderModel
 pub mod ScanParts
-pub mod FastPaths
 pub mod MatchSteps

@@ -1,9 +1,10 @@
 // Tracks the open directive of a part.
 ghost use Rattle.std.specs.Prelude.{◌≡◌, Some, codes};
 ghost use Rattle.cweb_store.specs.surface.Tokens.{token_model};
-ghost use Rattle.cweb_scan.specs.DirectiveTokens.{is_punct};
+ghost use Rattle.cweb_scan.specs.State.{is_punct};
 ghost use Rattle.cweb_scan.specs.inner.ScanParts.{after_token, new_directive, is_include_stage};
-ghost use Rattle.cweb_scan.specs.inner.ScanParts.{is_include_word, is_blank_token};
+ghost use Rattle.cweb_scan.specs.inner.ScanParts.{is_include_word};
+ghost use Rattle.cweb_store.specs.Parts.{is_blank};
 ghost use Rattle.cweb_scan.specs.inner.ScanParts as spec;
 
 use cweb_store::Token;
@@ -77,8 +78,8 @@ fn is_include_word(token: Token<'_>) -> bool
     }
 }
 
-fn is_blank_token(token: Token<'_>) -> bool
-    ensures { result ≡ is_blank_token (token_model token.entry) }
+fn is_blank(token: Token<'_>) -> bool
+    ensures { result ≡ is_blank (token_model token.entry) }
 {
     matches!(token, Token::Blank)
 }
@@ -86,7 +87,7 @@ fn is_blank_token(token: Token<'_>) -> bool
 fn next_open_stage(stage: Stage, token: Token<'_>) -> Stage
     ensures { result ≡ spec.next_open_stage stage (token_model token.entry) }
 {
-    if is_blank_token(token) {
+    if is_blank(token) {
         return stage;
     }
     if is_include_word(token) && matches!(stage, Stage::Bare) {

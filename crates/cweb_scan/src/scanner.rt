@@ -88,11 +88,9 @@ fn solid_after(solid: Directive, next: Directive, token: Token<'_>) -> Directive
 }
 
 impl Scanner {
-    ghost use Rattle.cweb_store.specs.surface.Names.{too_many};
-    ghost use Rattle.cweb_store.specs.surface.Tokens.{token_count};
+    ghost use Rattle.cweb_store.specs.surface.Tokens.{too_many, token_count};
     ghost use Rattle.cweb_scan.specs.Effects as after;
-    ghost use Rattle.cweb_scan.specs.State.{in_directive, is_c, names_include};
-    ghost use Rattle.cweb_scan.specs.State.{start_state, report_at, move_to};
+    ghost use Rattle.cweb_scan.specs.State.{in_directive, is_c, names_include, start_state, report_at, move_to};
     ghost use Rattle.cweb_scan.specs.inner.ScanParts.{in_open_part};
     ghost use Rattle.cweb_scan.specs.State as spec;
 

@@ -7,8 +7,8 @@ ghost use Rattle.cweb_lines.specs.Events.{Event};
 ghost use Rattle.cweb_lines.specs.surface.MergeProgress.{SoFar};
 ghost use Rattle.cweb_lines.specs.surface.OpenSources.{files_named, BlamesFile, ReadsShelf, name_of_file};
 ghost use Rattle.cweb_lines.specs.surface.MergerCalls.{to_come, so_far, stop_in, HasEnded, Grows, KnowsReaders};
-ghost use Rattle.cweb_store.specs.surface.Names.{too_many};
-ghost use Rattle.cweb_scan.specs.inner.FastPaths.{ReadsAhead, scanned_after, HasTaken};
+ghost use Rattle.cweb_store.specs.surface.Tokens.{too_many};
+ghost use Rattle.cweb_scan.specs.inner.MatchSteps.{ReadsAhead, scanned_after, HasTaken};
 ghost use Rattle.cweb_scan.specs.inner.ReaderModel.{cost, new_reader};
 ghost use Rattle.cweb_scan.specs.surface.Scan.{scanned_model, LeavesStop, ScanEndsEarly, ScansWithinLimits, Scans};
 

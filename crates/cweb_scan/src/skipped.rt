@@ -1,7 +1,7 @@
 // The prefix before the next `@`.
 ghost use Rattle.std.specs.List.{prefix_len};
 ghost use Rattle.cweb_rules.specs.inner.LineItems.{IsSizeIn};
-ghost use Rattle.cweb_scan.specs.inner.FastPaths.{is_skipped};
+ghost use Rattle.cweb_scan.specs.inner.MatchSteps.{is_skipped};
 
 use cweb_rules::plains::len_before;
 

@@ -70,7 +70,7 @@ pub use Rattle.cweb_store.specs.inner.DirectBytes.{direct_bytes}
 pub use Rattle.cweb_store.specs.inner.Known.{files_from, occurrence_form, occurrences_at, found_of, is_several}
 pub use Rattle.cweb_store.specs.inner.Known.{NameEntry, compare_bytes, entry_has_prefix, IsNameMap, id_of_spelling}
 pub use Rattle.cweb_store.specs.inner.Known.{next_begins, any_next, ids_with_prefix, early, earlies_from, by_found}
-pub use Rattle.cweb_store.specs.inner.Known.{has_spelling_at, name_at, names_at, AreKnown, NamesSoFar}
+pub use Rattle.cweb_store.specs.inner.Known.{name_at, names_at, AreKnown, NamesSoFar}
 pub use Rattle.cweb_store.specs.inner.Known.{IsOccurrenceTable, resolve, resolve_all}
 pub use Rattle.cweb_store.specs.inner.PartRanges.{with_closed_part, with_dropped_layout, with_opened_part}
 pub use Rattle.cweb_store.specs.inner.PartRanges.{with_pushed_token, ranges_from, IsWhole, closed_in, ArePartRanges}
@@ -81,7 +81,8 @@ pub use Rattle.cweb_store.specs.inner.Stored.{AreAnswers, HoldsAtMost, AreWithin
 pub use Rattle.cweb_store.specs.inner.Stored.{AreLinked, replacement_in, replacements_at, stored_in, AreLast, AreStored}
 pub use Rattle.cweb_store.specs.inner.Stored.{last_from, is_wanted, wanted_in}
 pub use Rattle.cweb_store.specs.inner.StringLists.{is_known_edge, string_at, AreStoredEdges, IsStoredEdge, is_high}
-pub use Rattle.cweb_store.specs.inner.StringLists.{is_numeric, punctuator_edge, punctuator_edge_by, strings_from}
+pub use Rattle.cweb_store.specs.surface.Tokens.{is_numeric, punctuator_edge, punctuator_edge_by}
+pub use Rattle.cweb_store.specs.inner.StringLists.{strings_from}
 pub use Rattle.cweb_store.specs.inner.StringLists.{AreEnds, string_start, IsFromStart, text_bytes, IsStringList}
 pub use Rattle.cweb_store.specs.inner.StringTables.{IsByteId, AreByteIds, IsStringTable, StringTableModel, InternsWord}
 pub use Rattle.cweb_store.specs.inner.StringTables.{has_word, table_model, AddsString, TakesString, TakesWord}
@@ -96,9 +97,9 @@ pub use Rattle.cweb_store.specs.laws.Laws.{FullNamesResolveToThemselves, Occurre
 pub use Rattle.cweb_store.specs.laws.Laws.{NamesAreDistinct, AbbreviationsBeginTheirNames, OneFaultForNoName}
 pub use Rattle.cweb_store.specs.laws.Laws.{JoiningConcatenates, IsLeft, OnlyLayoutIsDropped, left_of_macro}
 pub use Rattle.cweb_store.specs.laws.Laws.{token_of_call, IsLeftOfTokens, TokensAreThosePushed}
-pub use Rattle.cweb_store.specs.laws.Names.{Distinct}
-pub use Rattle.cweb_store.specs.surface.Names.{occurrence_of, too_many, occurrence_text}
-pub use Rattle.cweb_store.specs.surface.StringTables.{total, with_word}
+pub use Rattle.cweb_store.specs.laws.Laws.{Distinct}
+pub use Rattle.cweb_store.specs.surface.Tokens.{occurrence_of, too_many, occurrence_text}
+pub use Rattle.cweb_store.specs.surface.Tokens.{total, with_word}
 pub use Rattle.cweb_store.specs.surface.Tokens.{all_parts, part_count, token_count, numbers_where, tokens_at}
 pub use Rattle.cweb_store.specs.surface.Tokens.{replacement_of, uninterned_store_bytes, interned_store_bytes}
 pub use Rattle.cweb_store.specs.surface.Tokens.{replacement_bytes, stored_strings, token_model, token_strings}

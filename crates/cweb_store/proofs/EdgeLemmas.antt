@@ -1,6 +1,5 @@
 -- Edges of strings, and what is stored of them.
 use Rattle.cweb_store.proofs.Common.{◌≡◌, ◌==◌, ◌-◌, ℕ, zero, suc, Bool, true, false, List, [], ◌∷◌, ◌++◌, Some, ◌∙◌, refl, ap, sym, arith, length, take, slice_get, slice_index_or, list_any, Edge, AreStoredEdges, IsStoredEdge, first_is, is_high, is_numeric, is_operator, is_known_edge, last_is, punctuator_edge, punctuator_edge_by}
-use Rattle.cweb_store.specs.declared.edges.Edge.TheVariants as edge_kind
 
 last_of_list : (p : ℕ → Bool) (b : ℕ) (bs : List ℕ) (x : ℕ)
     → slice_get (b ∷ bs) (length bs) ≡ Some x → last_is p (b ∷ bs) ≡ p x

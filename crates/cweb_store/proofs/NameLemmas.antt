@@ -1,5 +1,5 @@
 -- Names in lists and maps.
-use Rattle.cweb_store.proofs.Common.{◌≡◌, ℕ, zero, suc, ◌+◌, Bool, true, false, cond, ◌||◌, List, [], ◌∷◌, ◌++◌, Some, None, length, refl, sym, ◌∙◌, ap, subst, arith, bytes_eq, if◌then◌else◌, nat_eq, list_any, starts_with, position_or_len, lookup, is_eq, nat_cmp, slice_cmp, is_eq-slice_cmp, bytes_eq-Decides, map-append, list_any-append, NameId, has_spelling_at, Name, id, spellings, beginning_from, beginning, with_full_name, NameEntry, compare_bytes, found_of, id_of_spelling, Distinct, IsNameMap, slice_get, drop, ◌<◌}
+use Rattle.cweb_store.proofs.Common.{◌≡◌, ℕ, zero, suc, ◌+◌, Bool, true, false, cond, ◌||◌, List, [], ◌∷◌, ◌++◌, Some, None, length, refl, sym, ◌∙◌, ap, subst, arith, bytes_eq, if◌then◌else◌, nat_eq, list_any, starts_with, position_or_len, lookup, is_eq, nat_cmp, slice_cmp, is_eq-slice_cmp, bytes_eq-Decides, map-append, list_any-append, NameId, Name, id, spellings, beginning_from, beginning, with_full_name, NameEntry, compare_bytes, found_of, id_of_spelling, Distinct, IsNameMap, slice_get, drop, ◌<◌}
 use Rattle.std.specs.BTreeMap as tree
 use Rattle.cweb_store.proofs.InsertLemmas.{grown, found-insert}
 
@@ -65,12 +65,6 @@ with_text-there i ns text h = ap (λ b. if b then ns else ns ++ (record { text =
 pub with_text-new : (i : ℕ) (ns : List Name) (text : List ℕ) → list_any (bytes_eq text) (spellings ns) ≡ false
     → with_full_name i ns text ≡ ns ++ (record { text = text; first = i }) ∷ []
 with_text-new i ns text h = ap (λ b. if b then ns else ns ++ (record { text = text; first = i }) ∷ []) h
-
-pub known-at : (ns : List Name) (i : ℕ) (q : List ℕ) → Distinct (spellings ns) → has_spelling_at ns i q ≡ true
-    → (list_any (bytes_eq q) (spellings ns) ≡ true) × (i ≡ position_or_len (bytes_eq q) (spellings ns))
-known-at [] i q d h = cc
-known-at (n ∷ ns) zero q d h = grind (arith, bytes_eq-sym q n.text)
-known-at (n ∷ ns) (suc i) q d h = grind (arith, known-at ns i q d.1 h, suc i, bytes_eq-Decides q n.text)
 
 beginning-push : (i : ℕ) (p : List ℕ) (ns : List Name) (n : Name) (j : ℕ) → j ≡ i + length ns →
     found_of (beginning_from i p (ns ++ n ∷ []))

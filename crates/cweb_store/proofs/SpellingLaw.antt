@@ -9,7 +9,7 @@ use Rattle.cweb_rules.specs.Bytes.{is_white}
 use Rattle.cweb_rules.specs.Edges.{first_is}
 use Rattle.cweb_store.specs.inner.Squeezing.{is_squeezed, is_squeezed_after}
 use Rattle.cweb_store.specs.Names.{squeezed, squeezed_after}
-use Rattle.cweb_store.specs.laws.Names.{is_other, HasSingleBlanks, SpellingsAreSqueezed}
+use Rattle.cweb_store.specs.laws.Laws.{is_other, HasSingleBlanks, SpellingsAreSqueezed}
 use Rattle.cweb_store.proofs.Squeezing.{fits_by, squeezed_stays}
 
 -- The rest after a byte that isn't white, and after white space.

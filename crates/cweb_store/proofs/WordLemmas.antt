@@ -1,8 +1,7 @@
 -- Words, numbers and punctuators that are stored once, and how many bytes of tokens are stored.
 use Rattle.cweb_store.proofs.Common.{◌≡◌, ℕ, ◌+◌, ◌≤◌, cond, List, [], ◌∷◌, ◌++◌, length, refl, sym, ◌∙◌, ap, arith, bytes_eq, filter, fold, list_any, Token, Word, Punct, total, interned_token_bytes, has_string}
 use Rattle.std.proofs.lemmas.List.Sums.{fold-append}
-use Rattle.cweb_store.specs.surface.StringTables.{with_word}
-use Rattle.cweb_store.specs.surface.Tokens.{token_size, with_word_of, words_of, other_bytes}
+use Rattle.cweb_store.specs.surface.Tokens.{with_word, token_size, with_word_of, words_of, other_bytes}
 use Rattle.cweb_store.specs.Parts.{Number}
 use Rattle.cweb_store.proofs.TotalLemmas.{total-append, with-word-any}
 

@@ -1,8 +1,7 @@
 -- The state of a builder, what each call changes in it, and replacements.
-use Rattle.std.specs.Prelude.{List, [], ◌∷◌, ◌++◌, Option, Some, None, option_map, option_to_list, ℕ, nat_eq}
-use Rattle.std.specs.Prelude.{fold, if◌then◌else◌}
-use Rattle.cweb_store.specs.declared.parts.PartKind.{PartKind}
-use Rattle.cweb_store.specs.Parts.{Token, Part, without_layout, at_close}
+use Rattle.std.specs.Prelude.{List, [], ◌∷◌, ◌++◌, Option, Some, None, option_map, option_to_list, ℕ, nat_eq, fold}
+use Rattle.std.specs.Prelude.{if◌then◌else◌}
+use Rattle.cweb_store.specs.Parts.{PartKind, Token, Part, without_layout, at_close}
 use Rattle.cweb_store.specs.Names.{Occurrence}
 
 -- The closed parts and the open one.

@@ -1,14 +1,12 @@
 -- The faults of names and their order.
-use Rattle.std.specs.Prelude.{ℕ, Bool, false, not, ◌&&◌, ◌||◌, List, ◌++◌, Option, Some, None, Ok, Err, map}
-use Rattle.std.specs.Prelude.{filter, filter_map}
+use Rattle.std.specs.Prelude.{ℕ, Bool, false, not, ◌&&◌, ◌||◌, List, ◌++◌, Option, Some, None, Ok, Err, map, filter}
+use Rattle.std.specs.Prelude.{filter_map}
 use Rattle.std.specs.List.{list_any, enumerate_from}
-use Rattle.cweb_store.specs.declared.name.NameId.{NameId}
+use Rattle.cweb_store.specs.Names.{NameId, Occurrence, Resolution, id, is_id, names, resolutions, resolved_at, files}
+use Rattle.cweb_store.specs.Names.{is_prefix_of_another, PrefixOfAnother, NotPresent}
 use Rattle.cweb_store.specs.declared.name.NameKind.{NameKind}
-use Rattle.cweb_store.specs.declared.name.NameKind.TheVariants.{PrefixOfAnother, NotPresent}
 use Rattle.cweb_store.specs.declared.name.NameFault.{NameFault}
 use Rattle.cweb_store.specs.Names as spec
-use Rattle.cweb_store.specs.Names.{Occurrence, Resolution, id, is_id, names, resolutions, resolved_at, files}
-use Rattle.cweb_store.specs.Names.{is_prefix_of_another}
 use Rattle.cweb_store.specs.Parts.{Token, Name, Part, joined_where, is_c_part, is_some_id, is_of}
 
 -- A fault of a name, reported at an occurrence.

@@ -4,10 +4,10 @@ use Rattle.std.specs.Prelude.{map, slice_get, bytes_eq, if◌then◌else◌, tru
 use Rattle.std.specs.Prelude.{filter, fold, option_to_list}
 use Rattle.std.specs.List.{starts_with, list_any, position_or_len, ends_with, enumerate_from}
 use Rattle.cweb_store.specs.declared.name.How.{How}
-use Rattle.cweb_store.specs.declared.name.How.TheVariants.{Full, Prefix}
-use Rattle.cweb_store.specs.declared.name.NameId.{NameId}
+pub use Rattle.cweb_store.specs.declared.name.How.TheVariants.{Full, Prefix}
+pub use Rattle.cweb_store.specs.declared.name.NameId.{NameId}
 use Rattle.cweb_store.specs.declared.name.NameKind.{NameKind}
-use Rattle.cweb_store.specs.declared.name.NameKind.TheVariants.{Ambiguous, NeverFull}
+pub use Rattle.cweb_store.specs.declared.name.NameKind.TheVariants.{Ambiguous, NeverFull, PrefixOfAnother, NotPresent}
 use Rattle.cweb_rules.specs.Bytes.{is_white}
 
 -- An occurrence: its spelling, or the prefix of an abbreviation, and whether it names a file.

@@ -1,14 +1,13 @@
 -- Parts and their tokens, and the layout at the end of a part.
-use Rattle.std.specs.Prelude.{ℕ, Bool, true, false, not, List, Option, filter, flat_map, [], ◌∷◌, ◌++◌}
-use Rattle.std.specs.Prelude.{take, drop, if◌then◌else◌}
+use Rattle.std.specs.Prelude.{ℕ, Bool, true, false, not, List, Option, filter, flat_map, [], ◌∷◌, ◌++◌, take, drop}
+use Rattle.std.specs.Prelude.{if◌then◌else◌}
 use Rattle.std.specs.List.{list_any}
 use Rattle.std.specs.Option.{option_map_or}
-use Rattle.cweb_files.specs.declared.place.Place.{Place}
-use Rattle.cweb_store.specs.declared.name.NameRef.{NameRef}
-use Rattle.cweb_store.specs.declared.name.NameId.{NameId}
-use Rattle.cweb_store.specs.declared.parts.PartKind.{PartKind}
+pub use Rattle.cweb_files.specs.declared.place.Place.{Place}
+pub use Rattle.cweb_store.specs.declared.name.NameRef.{NameRef}
+use Rattle.cweb_store.specs.Names.{NameId, Resolution, resolved_at, is_id}
+pub use Rattle.cweb_store.specs.declared.parts.PartKind.{PartKind}
 use Rattle.cweb_store.specs.declared.parts.PartKind.TheVariants.{Unnamed, Named, Macro}
-use Rattle.cweb_store.specs.Names.{Resolution, resolved_at, is_id}
 
 -- A token with its bytes.
 pub data Token : Type 0 where

@@ -1,3 +1,2 @@
 -- Definitions that only laws cite.
-pub mod Names
 pub mod Laws

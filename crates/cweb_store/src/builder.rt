@@ -1,26 +1,30 @@
 // The builder: accepts what a scan finds, call by call, and makes the store.
-ghost use Rattle.std.specs.Prelude.{◌≡◌, ◌<◌, ◌≤◌, ◌+◌, length, IsSome, IsNone, is_some, IfOk};
-ghost use Rattle.std.specs.Prelude.{IsTrue, OnOk, OnErr};
-ghost use Rattle.cweb_store.specs.surface.Tokens.{part_count, token_count, replacement_of};
-ghost use Rattle.cweb_store.specs.Calls.{empty, finished, with_closed, with_dropped};
-ghost use Rattle.cweb_store.specs.Calls.{with_occurrence, with_open, with_replacement, with_token};
-ghost use Rattle.cweb_store.specs.surface.Names.{occurrence_of, too_many};
+ghost use Rattle.std.specs.Prelude.{◌≡◌, ◌<◌, ◌≤◌, ◌+◌, length, IsSome, IsNone, is_some, IfOk, IsTrue, OnOk, OnErr};
+ghost use Rattle.cweb_store.specs.surface.Tokens.{part_count, token_count, replacement_of, occurrence_of, too_many};
+ghost use Rattle.cweb_store.specs.Calls.{empty, finished, with_closed, with_dropped, with_occurrence, with_open};
+ghost use Rattle.cweb_store.specs.Calls.{with_replacement, with_token};
 
-use crate::name::{How, NameRef};
-use crate::parts::PartKind;
-use crate::parts::list::{FULL, PartList};
+use crate::parts::closed::ClosedParts;
+use crate::parts::{Open, PartKind, PartRange};
 use crate::replacements::Replacements;
-use crate::store::Store;
 use crate::table::NameTable;
-use crate::tokens::Token;
+use crate::tokens::layout::{end_at_close, end_before_layout};
+use crate::tokens::list::TokenList;
+use crate::{How, NameRef, Store, Token};
 use std::alloc::{AllocError, Global};
 use std::marker::Model;
 
-/// The contents of a web so far: occurrences, parts with tokens, and transliterations. A refused call may be repeated.
+// The maximum number of occurrences, of parts and of tokens.
+const FULL: usize = u32::MAX as usize - 1;
+
+/// The contents of a web so far: occurrences, parts and transliterations. The tokens of all parts are in one list, with
+/// the range of each closed part in it. A refused call may be repeated.
 pub struct Builder {
     alloc: Global,
     names: NameTable,
-    parts: PartList,
+    tokens: TokenList,
+    ranges: Vec<PartRange>,
+    current: Option<Open>,
     replacements: Replacements,
 }
 
@@ -29,7 +33,9 @@ impl Drop for Builder {
         let Self {
             alloc: _,
             names: _,
-            parts: _,
+            tokens: _,
+            ranges: _,
+            current: _,
             replacements: _,
         } = self;
     }
@@ -40,8 +46,18 @@ impl Model for Builder {
 
     ghost Value = { Contents };
 
+    ghost use Rattle.std.specs.Prelude.{vec_capacity};
+    ghost use Rattle.cweb_store.specs.inner.PartRanges.{parts_in, ArePartRanges};
+
     ghost view = { λ s.
-        record { occurrences = s.names; parts = s.parts.parts; replacements = s.replacements } };
+        record {
+          occurrences = s.names;
+          parts = parts_in s.tokens s.ranges.items s.current;
+          replacements = s.replacements;
+        } };
+
+    ghost invariant = { λ s.
+        ArePartRanges s.tokens s.ranges.items s.current (vec_capacity s.ranges) };
 }
 
 impl Builder {
@@ -54,7 +70,9 @@ impl Builder {
         Builder {
             alloc,
             names: NameTable::new(alloc),
-            parts: PartList::new(alloc),
+            tokens: TokenList::new(alloc),
+            ranges: Vec::new(alloc),
+            current: None,
             replacements: Replacements::new(alloc),
         }
     }
@@ -84,14 +102,24 @@ impl Builder {
             part_count self.now.parts + 1 < too_many →
             token_count self.now.parts + 1 < too_many → IsTrue result }
     {
-        self.names.len() < FULL && self.parts.has_room()
+        self.names.len() < FULL && self.part_count() < FULL && self.tokens.len() < FULL
+    }
+
+    // The number of parts, the open one included.
+    fn part_count(&self) -> usize
+        ensures { result ≡ part_count self.now.parts }
+    {
+        match self.current {
+            Some(_) => self.ranges.len() + 1,
+            None => self.ranges.len(),
+        }
     }
 
     /// Whether a part is open.
     pub fn is_open(&self) -> bool
         ensures { result ≡ is_some self.now.parts.current }
     {
-        self.parts.is_open()
+        self.current.is_some()
     }
 
     /// Begins a part, which is open until it is closed. A refused call changes nothing.
@@ -101,7 +129,11 @@ impl Builder {
         ensures ok { OnOk result (self.new ≡ with_open kind self.old) }
         ensures err { OnErr result (self.new ≡ self.old) }
     {
-        self.parts.open(kind)
+        // Reserves the range, so that `close_part` cannot fail.
+        self.ranges.reserve(1)?;
+        let first = self.tokens.len() as u32;
+        self.current = Some(Open { kind, first });
+        Ok(())
     }
 
     /// Appends a token to the open part. A refused call changes nothing.
@@ -112,7 +144,8 @@ impl Builder {
         ensures ok { OnOk result (self.new ≡ with_token (token_model token.entry) self.old) }
         ensures err { OnErr result (self.new ≡ self.old) }
     {
-        self.parts.push(token)
+        self.tokens.push(token)?;
+        Ok(())
     }
 
     /// Drops the open part's trailing Blanks, Newlines and Marks, but no macro's first two tokens. Allocates nothing.
@@ -120,7 +153,11 @@ impl Builder {
         requires { IsSome self.old.parts.current }
         ensures { self.new ≡ with_dropped self.old }
     {
-        self.parts.drop_layout();
+        let Some(current) = self.current else {
+            return;
+        };
+        let end = end_before_layout(&self.tokens, current);
+        self.tokens.truncate(end);
     }
 
     /// Ends the open part. A macro loses its trailing Newlines, and then a trailing Blank. Allocates nothing.
@@ -128,7 +165,13 @@ impl Builder {
         requires { IsSome self.old.parts.current }
         ensures { self.new ≡ with_closed self.old }
     {
-        self.parts.close();
+        let Some(current) = self.current else {
+            return;
+        };
+        let end = end_at_close(&self.tokens, current);
+        self.tokens.truncate(end);
+        self.current = None;
+        self.ranges.push_reserved(current.up_to(end as u32));
     }
 
     /// Sets the replacement of a byte from 128 on in printed Words (CWEB manual, `@l`). The last call for a byte wins.
@@ -148,9 +191,16 @@ impl Builder {
         let Builder {
             alloc,
             names,
-            parts,
+            tokens,
+            ranges,
+            current,
             replacements,
         } = self;
-        Store::new(alloc, names, parts.finish(), replacements)
+        Store::new(
+            alloc,
+            names,
+            ClosedParts::new(tokens, ranges, current),
+            replacements,
+        )
     }
 }

@@ -1,13 +1,10 @@
 // The calls of a builder as values.
 ghost use Rattle.std.specs.Prelude.{◌≡◌, ◌-◌, ◌↔◌, if◌then◌else◌, IsTrue, OnOk, OnErr};
 ghost use Rattle.cweb_store.specs.laws.Laws.{after_call, call_model, AcceptsCall};
-ghost use Rattle.cweb_store.specs.surface.Names.{too_many};
+ghost use Rattle.cweb_store.specs.surface.Tokens.{too_many};
 ghost use Rattle.cweb_store.specs.inner.Stored.{HoldsAtMost};
 
-use crate::builder::Builder;
-use crate::name::How;
-use crate::parts::PartKind;
-use crate::tokens::Token;
+use crate::{Builder, How, PartKind, Token};
 use std::alloc::AllocError;
 
 /// A call of a builder. It borrows its bytes.

@@ -2,9 +2,8 @@
 ghost use Rattle.std.specs.Prelude.{◌≡◌};
 ghost use Rattle.std.specs.List.{list_any};
 ghost use Rattle.cweb_rules.specs.Edges.{first_is, is_operator};
-ghost use Rattle.cweb_store.specs.inner.StringLists.{is_high, is_numeric, edge_by_last};
-ghost use Rattle.cweb_store.specs.inner.StringLists.{punctuator_edge, punctuator_edge_by};
-ghost use Rattle.cweb_store.specs.inner.StringLists.{string_edge};
+ghost use Rattle.cweb_store.specs.surface.Tokens.{is_numeric, edge_by_last, punctuator_edge, punctuator_edge_by};
+ghost use Rattle.cweb_store.specs.inner.StringLists.{is_high, string_edge};
 
 /// What decides whether a blank comes between a token that is printed as its string and its neighbours.
 ///
@@ -135,8 +134,7 @@ fn first_is_numeric(string: &[u8]) -> bool
     }
 }
 
-/// Whether the first byte may be part of a longer operator.
-pub fn begins_with_operator(string: &[u8]) -> bool
+fn begins_with_operator(string: &[u8]) -> bool
     ensures { result ≡ first_is is_operator string.now }
 {
     match string {
@@ -145,34 +143,10 @@ pub fn begins_with_operator(string: &[u8]) -> bool
     }
 }
 
-// The bytes that may combine with others to a longer operator. One lookup per byte.
-const OPERATOR_BYTES: [bool; 256] = [
-    false, false, false, false, false, false, false, false, false, false, false, false, false,
-    false, false, false, false, false, false, false, false, false, false, false, false, false,
-    false, false, false, false, false, false, false, true, false, true, false, true, true, false,
-    false, false, true, true, false, true, true, true, false, false, false, false, false, false,
-    false, false, false, false, true, false, true, true, true, true, false, false, false, false,
-    false, false, false, false, false, false, false, false, false, false, false, false, false,
-    false, false, false, false, false, false, false, false, false, false, false, false, false,
-    true, false, false, false, false, false, false, false, false, false, false, false, false,
-    false, false, false, false, false, false, false, false, false, false, false, false, false,
-    false, false, false, false, true, false, false, false, false, false, false, false, false,
-    false, false, false, false, false, false, false, false, false, false, false, false, false,
-    false, false, false, false, false, false, false, false, false, false, false, false, false,
-    false, false, false, false, false, false, false, false, false, false, false, false, false,
-    false, false, false, false, false, false, false, false, false, false, false, false, false,
-    false, false, false, false, false, false, false, false, false, false, false, false, false,
-    false, false, false, false, false, false, false, false, false, false, false, false, false,
-    false, false, false, false, false, false, false, false, false, false, false, false, false,
-    false, false, false, false, false, false, false, false, false, false, false, false, false,
-    false, false, false, false, false, false, false, false, false, false, false, false, false,
-    false, false, false, false, false, false,
-];
-
-/// Whether a byte may be part of a longer operator.
-#[inline(always)]
-pub fn is_operator(byte: u8) -> bool
+// Whether a byte may be part of a longer operator.
+fn is_operator(byte: u8) -> bool
     ensures { result ≡ is_operator byte }
 {
-    OPERATOR_BYTES[byte as usize]
+    matches!(byte, b'+' | b'-' | b'*' | b'/' | b'%' | b'&' | b'|' | b'^')
+        || matches!(byte, b'!' | b'=' | b'<' | b'>' | b'.' | b':' | b'#' | b'?')
 }

@@ -1,16 +1,12 @@
 // The names that are given in full.
-ghost use Rattle.std.specs.Prelude.{false, ◌≡◌, ◌<◌, ◌^◌, map, length, slice_get, bytes_eq};
-ghost use Rattle.std.specs.Prelude.{option_map, Some, IfOk, IfSome, true, OnOk};
-ghost use Rattle.std.specs.List.{list_any, position_or_len};
-ghost use Rattle.cweb_store.specs.Names.{beginning, is_prefix_of_another, spellings};
-ghost use Rattle.cweb_store.specs.Names.{with_occurrence_name};
-ghost use Rattle.cweb_store.specs.surface.Names.{occurrence_of};
-ghost use Rattle.cweb_store.specs.inner.Known.{found_of, IsNumbered, early, has_spelling_at};
-ghost use Rattle.cweb_store.specs.inner.Known.{no_names};
+ghost use Rattle.std.specs.Prelude.{false, ◌≡◌, ◌<◌, ◌^◌, map, length, slice_get, option_map, Some, IfOk, OnOk};
+ghost use Rattle.std.specs.List.{list_any};
+ghost use Rattle.cweb_store.specs.Names.{beginning, is_prefix_of_another, spellings, with_occurrence_name};
+ghost use Rattle.cweb_store.specs.surface.Tokens.{occurrence_of};
+ghost use Rattle.cweb_store.specs.inner.Known.{found_of, IsNumbered, early, no_names};
 ghost use Rattle.cweb_store.specs.inner.StringLists.{string_at};
 
 use crate::found::{Found, find_one, has_prefix, number_in};
-use crate::index::NameIndex;
 use crate::name::{How, NameId};
 use crate::slices::StringSlices;
 use crate::sorted::SortKey;
@@ -60,13 +56,8 @@ impl<'a> KnownNames<'a> {
         self.firsts.len()
     }
 
-    /// Adds the name of an occurrence, if in full. Returns which names fit so far. `index` has most of the names.
-    pub(crate) fn take(
-        &mut self,
-        index: &mut NameIndex,
-        number: u32,
-        how: How,
-    ) -> Result<Found, AllocError>
+    /// Adds the name of an occurrence, if in full. Returns which names fit so far.
+    pub(crate) fn take(&mut self, number: u32, how: How) -> Result<Found, AllocError>
         requires within { number < length self.old.strings }
         requires few { length self.old.names < 2 ^ 32 }
         ensures found { IfOk result (λ found. found ≡ early self.old.names
@@ -78,59 +69,13 @@ impl<'a> KnownNames<'a> {
         match how {
             How::Full => {
                 let text = self.strings.string(number as usize);
-                Ok(Found::One(self.number_of(index, text, number)?))
+                Ok(Found::One(self.add(text, number)?))
             }
             How::Prefix => Ok(self.find(number)),
         }
     }
 
     // The number of the name with this spelling, that of occurrence `first`. The name is added if new.
-    fn number_of(
-        &mut self,
-        index: &mut NameIndex,
-        text: &'a [u8],
-        first: u32,
-    ) -> Result<NameId, AllocError>
-        requires few { length self.old.names < 2 ^ 32 }
-        requires spelled { slice_get self.old.strings first ≡ Some text.now }
-        ensures { IfOk result (λ id. IsNumbered self.old text.now first id self.new) }
-    {
-        if let Some(known) = self.indexed(index, text) {
-            return Ok(known);
-        }
-        let id = self.add(text, first)?;
-        index.put(text, id.0 as usize);
-        Ok(id)
-    }
-
-    // The fast path: the name with this spelling, if the index has it.
-    fn indexed(&self, index: &NameIndex, text: &[u8]) -> Option<NameId>
-        ensures among { IfSome result
-            (λ id. list_any (bytes_eq text.now) (spellings self.now.names) ≡ true) }
-        ensures number { IfSome result
-            (λ id. id.0 ≡ position_or_len (bytes_eq text.now) (spellings self.now.names)) }
-    {
-        // no two names have one spelling
-        let _ = &self.firsts;
-        for slot in index.candidates(text) {
-            let id = NameId(slot.checked_sub(1)?);
-            if self.has(id, text) {
-                return Some(id);
-            }
-        }
-        None
-    }
-
-    fn has(&self, id: NameId, text: &[u8]) -> bool
-        ensures { result ≡ has_spelling_at self.now.names id.0 text.now }
-    {
-        match self.firsts.get(id.0 as usize) {
-            Some(first) => self.strings.string(*first as usize) == text,
-            None => false,
-        }
-    }
-
-    // The slow path of `number_of`: looks the name up in the map.
     fn add(&mut self, text: &'a [u8], first: u32) -> Result<NameId, AllocError>
         requires few { length self.old.names < 2 ^ 32 }
         requires spelled { slice_get self.old.strings first ≡ Some text.now }

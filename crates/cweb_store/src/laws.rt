@@ -3,20 +3,15 @@
 
 ghost use Rattle.std.specs.Prelude.{◌≡◌, ◌<◌, length, map, IfOk};
 ghost use Rattle.cweb_store.specs.laws.Laws.{contents, AbbreviationsStay, EarlierNamesDecide};
-ghost use Rattle.cweb_store.specs.laws.Laws.{FullNamesResolveToThemselves};
-ghost use Rattle.cweb_store.specs.laws.Laws.{OccurrencesAreThoseOfCalls};
-ghost use Rattle.cweb_store.specs.laws.Laws.{AbbreviationsBeginTheirNames, NamesAreDistinct};
-ghost use Rattle.cweb_store.specs.laws.Laws.{OneFaultForNoName, FilesAreNamesOfOccurrences};
-ghost use Rattle.cweb_store.specs.laws.Laws.{NamesDecideResolutions, JoiningConcatenates};
-ghost use Rattle.cweb_store.specs.laws.Laws.{OnlyLayoutIsDropped, TokensAreThosePushed};
-ghost use Rattle.cweb_store.specs.laws.Laws.{accepted_calls, AcceptsCalls};
+ghost use Rattle.cweb_store.specs.laws.Laws.{FullNamesResolveToThemselves, OccurrencesAreThoseOfCalls};
+ghost use Rattle.cweb_store.specs.laws.Laws.{AbbreviationsBeginTheirNames, NamesAreDistinct, OneFaultForNoName};
+ghost use Rattle.cweb_store.specs.laws.Laws.{FilesAreNamesOfOccurrences, NamesDecideResolutions, JoiningConcatenates};
+ghost use Rattle.cweb_store.specs.laws.Laws.{OnlyLayoutIsDropped, TokensAreThosePushed, accepted_calls, AcceptsCalls};
 ghost use Rattle.cweb_store.specs.Calls.{empty, finished};
-ghost use Rattle.cweb_store.specs.laws.Names.{SpellingsAreSqueezed};
-ghost use Rattle.cweb_store.specs.surface.Names.{too_many};
+ghost use Rattle.cweb_store.specs.laws.Laws.{SpellingsAreSqueezed};
+ghost use Rattle.cweb_store.specs.surface.Tokens.{too_many};
 
-use crate::builder::Builder;
-use crate::call::{Answered, Call};
-use crate::store::Store;
+use crate::{Answered, Builder, Call, Store};
 use std::alloc::{AllocError, Global};
 
 /// Makes the calls that the state allows, and counts the others as refused. The store is that of the calls with `Ok`.

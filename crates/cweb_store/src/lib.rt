@@ -1,5 +1,5 @@
-//! The names, parts and tokens of a web: a builder that is called as a web is scanned, and the store that it makes. All
-//! strings are in one byte buffer, and equal words are stored once (CWEB manual, "Section names").
+//! The names (CWEB manual, "Section names"), parts and tokens of a web: a builder that is called as a web is scanned, and
+//! the store that it makes. All strings are in one byte buffer, and equal words are stored once.
 #![tactic(auto)]
 
 // the edge of a string
@@ -21,8 +21,6 @@ mod name;
 mod sorted;
 // the names that begin with a prefix
 mod found;
-// a hash table of names
-mod index;
 // the names so far
 mod known;
 // the name that an occurrence resolves to
@@ -56,7 +54,7 @@ pub mod laws;
 
 pub use builder::Builder;
 pub use call::{Answered, Call};
-pub use edges::{Edge, TokenBytes, begins_with_operator, is_operator};
+pub use edges::{Edge, TokenBytes, punctuator_edge};
 pub use name::{How, NameFault, NameId, NameKind, NameRef};
 pub use parts::iter::Parts;
 pub use parts::{Part, PartKind};
@@ -64,4 +62,3 @@ pub use spelling::{is_prefix, is_squeezed, squeezed};
 pub use store::Store;
 pub use tokens::Token;
 pub use tokens::token_reader::TokenReader;
-pub use words::key::Key;

@@ -6,7 +6,6 @@ use crate::name::NameRef;
 pub mod closed;
 pub mod iter;
 pub mod links;
-pub mod list;
 
 /// What a part belongs to.
 #[derive(Clone, Copy, Debug, PartialEq, Eq)]
@@ -52,4 +51,22 @@ pub struct PartRange {
 pub struct Open {
     pub kind: PartKind,
     pub first: u32,
+}
+
+impl Open {
+    ghost use Rattle.cweb_store.specs.inner.PartRanges.{last_range};
+
+    /// The range of the part if it ends before token `after`.
+    pub fn up_to(self, after: u32) -> PartRange
+        ensures { result ≡ last_range self after }
+    {
+        let part = Part {
+            first: self.first,
+            after,
+        };
+        PartRange {
+            kind: self.kind,
+            part,
+        }
+    }
 }

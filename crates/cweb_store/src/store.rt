@@ -3,26 +3,22 @@ pub(crate) mod answers;
 mod parts_wanted;
 pub mod token_access;
 
-ghost use Rattle.std.specs.Prelude.{◌≡◌, ◌<◌, ◌≤◌, length, slice_get, option_map, Some, None, IfOk};
-ghost use Rattle.std.specs.Prelude.{IfSome, All};
+ghost use Rattle.std.specs.Prelude.{◌≡◌, ◌<◌, ◌≤◌, length, slice_get, option_map, Some, None, IfOk, IfSome, All};
 ghost use Rattle.cweb_store.specs.Names as spec;
 ghost use Rattle.cweb_store.specs.Parts.{all_tokens, has_defs_code};
 ghost use Rattle.cweb_store.specs.Faults.{faults};
 ghost use Rattle.cweb_store.specs.Calls.{replacement, stored};
-ghost use Rattle.cweb_store.specs.surface.Names.{too_many};
-ghost use Rattle.cweb_store.specs.surface.Tokens.{AreInOneList, uninterned_store_bytes};
-ghost use Rattle.cweb_store.specs.surface.Tokens.{interned_store_bytes, stored_strings};
+ghost use Rattle.cweb_store.specs.surface.Tokens.{too_many, AreInOneList, uninterned_store_bytes, interned_store_bytes};
+ghost use Rattle.cweb_store.specs.surface.Tokens.{stored_strings};
 ghost use Rattle.cweb_store.specs.inner.Records.{IsNextNumber, is_name_use};
 
-use crate::name::{NameFault, NameId, NameRef};
-use crate::parts::Part;
 use crate::parts::closed::ClosedParts;
 use crate::replacements::{Replacements, last_places};
 use crate::resolution::resolved_at;
 use crate::store::answers::Answers;
 use crate::strings::StringList;
 use crate::table::{NameTable, OccurrenceForm};
-use crate::tokens::Token;
+use crate::{NameFault, NameId, NameRef, Part, Token};
 use std::alloc::{AllocError, Global};
 use std::marker::Model;
 

@@ -1,9 +1,8 @@
 // Strings in one table, those that repeat stored once.
 ghost use Rattle.std.specs.Prelude.{◌≡◌, ◌<◌, ◌+◌, ℕ, Some, false, length, slice_get, IfSome};
 ghost use Rattle.cweb_store.specs.inner.Words.{key_of};
-ghost use Rattle.cweb_store.specs.inner.StringTables.{AreByteIds, IsByteId, InternsWord, StringTableModel};
-ghost use Rattle.cweb_store.specs.inner.StringTables.{TakesString, TakesWord, empty_table, has_word};
-ghost use Rattle.cweb_store.specs.inner.StringTables.{string_limit};
+ghost use Rattle.cweb_store.specs.inner.StringTables.{AreByteIds, IsByteId, InternsWord, StringTableModel, TakesString};
+ghost use Rattle.cweb_store.specs.inner.StringTables.{TakesWord, empty_table, has_word, string_limit};
 
 use crate::strings::StringList;
 use crate::words::intern_sorted;

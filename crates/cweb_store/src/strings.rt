@@ -1,8 +1,6 @@
 // Strings in one byte buffer.
-ghost use Rattle.std.specs.Prelude.{◌≡◌, ◌<◌, ◌+◌, ◌^◌, [], List, ℕ, length, drop, take};
-ghost use Rattle.std.specs.Prelude.{slice_get, Some, OnOk};
-ghost use Rattle.cweb_store.specs.inner.StringLists.{IsStoredEdge, IsFromStart, TakesNext};
-ghost use Rattle.cweb_store.specs.inner.StringLists.{text_bytes};
+ghost use Rattle.std.specs.Prelude.{◌≡◌, ◌<◌, ◌+◌, ◌^◌, [], List, ℕ, length, drop, take, slice_get, Some, OnOk};
+ghost use Rattle.cweb_store.specs.inner.StringLists.{IsStoredEdge, IsFromStart, TakesNext, text_bytes};
 
 use crate::edges::{Edge, string_edge};
 use crate::slices::StringSlices;

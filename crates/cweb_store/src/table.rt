@@ -1,12 +1,10 @@
 // The occurrences of names.
-ghost use Rattle.std.specs.Prelude.{◌≡◌, ◌<◌, ◌+◌, ◌^◌, ◌++◌, ◌∷◌, [], map, length, IfOk, OnOk};
-ghost use Rattle.std.specs.Prelude.{OnErr};
+ghost use Rattle.std.specs.Prelude.{◌≡◌, ◌<◌, ◌+◌, ◌^◌, ◌++◌, ◌∷◌, [], map, length, IfOk, OnOk, OnErr};
 ghost use Rattle.cweb_store.specs.Names.{names, resolutions};
 ghost use Rattle.cweb_store.specs.inner.Known.{files_from, earlies_from, occurrence_form};
-ghost use Rattle.cweb_store.specs.surface.Names.{occurrence_of, occurrence_text, too_many};
+ghost use Rattle.cweb_store.specs.surface.Tokens.{occurrence_of, occurrence_text, too_many};
 
 use crate::found::Found;
-use crate::index::NameIndex;
 use crate::known::KnownNames;
 use crate::name::{How, NameId, NameKind, NameRef};
 use crate::resolution::{Resolutions, resolve_all, resolved_at};
@@ -95,10 +93,9 @@ impl NameTable {
         ensures found { IfOk result (λ all. all.1.items ≡ earlies_from 0 [] self.now) }
     {
         let mut known = KnownNames::new(self.alloc, self.strings.slices());
-        let mut index = NameIndex::for_names(self.alloc, self.forms.len());
         let mut found = Vec::with_capacity(self.alloc, self.forms.len())?;
         for (i, form) in self.forms.iter().enumerate() {
-            found.push(known.take(&mut index, i as u32, form.how)?)?;
+            found.push(known.take(i as u32, form.how)?)?;
         }
         Ok((known, found))
     }

@@ -1,6 +1,5 @@
 -- Membership in a set of file keys.
-use Rattle.std.proofs.Common.{arith}
-use Rattle.std.proofs.Common.{◌≡◌, ◌↔◌, ◌⊎◌, inl, inr, Bool, true, false, cond, List, Contains, IsTrue, slice_index_or, sym, ◌∙◌, refl, ap, subst, nat_cmp}
+use Rattle.std.proofs.Common.{arith, ◌≡◌, ◌↔◌, ◌⊎◌, Bool, true, cond, List, Contains, IsTrue, slice_index_or, sym, ◌∙◌, refl, ap, subst, nat_cmp}
 use Rattle.std.specs.declared.cmp.Ordering.{Ordering}
 use Rattle.std.specs.declared.cmp.Ordering.TheVariants.{Less, Equal, Greater}
 use Rattle.std.specs.List.{list_any, Any}
@@ -8,7 +7,7 @@ use Rattle.std.specs.BTreeMap.{is_at}
 use Rattle.std.specs.Ordering.{is_eq, ordering_then}
 use Rattle.std.proofs.lemmas.List.Folds.{list_any_at, Any-from_list_any}
 use Rattle.std.proofs.lemmas.Map.Lookups.{exact_unsigned}
-use Rattle.cweb_system.specs.inner.Keys.{compare_keys, is_among}
+use Rattle.cweb_system.specs.inner.Written.{compare_keys, is_among}
 use Rattle.cweb_system.specs.declared.node.FileKey.{FileKey}
 
 both_equal : (a b : Ordering) → is_eq (ordering_then a b) ≡ true → (a ≡ Equal) × (b ≡ Equal)
@@ -40,18 +39,10 @@ among file keys has is = (
 abbrev Adds : FileKey → List FileKey → List FileKey → Type 0
 Adds file keys after = (q : FileKey) → is_among after q ≡ cond (is_at (compare_keys file) q) true (is_among keys q)
 
-cond_cases : (b x : Bool) → cond b true x ≡ true → (b ≡ true) ⊎ (x ≡ true)
-cond_cases true x is = inl refl
-cond_cases false x is = inr is
-
-cond_kept : (b x : Bool) → x ≡ true → cond b true x ≡ true
-cond_kept true x is = refl
-cond_kept false x is = is
-
 pub kept_among : (file : FileKey) (keys after : List FileKey) → Adds file keys after → (q : FileKey)
     → IsTrue (is_among keys q) → IsTrue (is_among after q)
-kept_among file keys after adds q was = adds q ∙ cond_kept (is_at (compare_keys file) q) (is_among keys q) was
+kept_among file keys after adds q was = grind arith
 
 pub only_among : (file : FileKey) (keys after : List FileKey) → Adds file keys after → (q : FileKey)
     → IsTrue (is_among after q) → IsTrue (is_among keys q) ⊎ (q ≡ file)
-only_among file keys after adds q now = grind (arith, same, both_equal, cond_cases)
+only_among file keys after adds q now = grind (arith, same, both_equal)

@@ -1,6 +1,5 @@
--- Each call is a decent step.
-use Rattle.std.proofs.Common.{arith}
-use Rattle.std.proofs.Common.{◌≡◌, ◌∙◌, ◌⊎◌, inl, inr, ◌∷◌, ◌++◌, [], ℕ, List, Bool, true, false, refl, sym, ap, subst, Option, Some, None, IsTrue}
+-- Each call is a decent step, and the steps of bins stay decent.
+use Rattle.std.proofs.Common.{arith, ◌≡◌, ◌∙◌, ◌⊎◌, inl, inr, ◌∷◌, ◌++◌, [], ℕ, List, Bool, true, false, refl, sym, ap, subst, Option, Some, None, IsTrue}
 use Rattle.std.specs.Prelude.{Result, Ok, Err, OnErr, IfOk, IfSome}
 use Rattle.std.specs.Str.{bytes_eq}
 use Rattle.std.proofs.lemmas.Slice.Eq.{bytes_eq-Decides}
@@ -8,9 +7,13 @@ use Rattle.cweb_system.specs.declared.node.FileFault.{FileFault}
 use Rattle.cweb_system.specs.declared.node.FileKey.{FileKey}
 use Rattle.cweb_system.specs.declared.node.Node.{Node}
 use Rattle.cweb_system.specs.Tree.{Tree, IsFile, bytes_of, Appends, Creates, MayCreate, Removes, Renames, SetsMode}
-use Rattle.cweb_system.specs.inner.Drafts.{IsAlone, KeepsDecent}
-use Rattle.cweb_system.specs.inner.Drafts.{IsDraftAlone, IsUnread}
-use Rattle.cweb_system.specs.Steps.{Arrives, Changes, Disk, IsDecent, IsDraftPlace, NotesFailure, OnDisk, Stays}
+use Rattle.cweb_system.specs.inner.Drafts.{IsAlone, KeepsDecent, IsDraftAlone, IsUnread}
+use Rattle.cweb_system.specs.Steps.{Arrives, Changes, Disk, IsDecent, IsDraftPlace, NotesFailure, OnDisk, Stays, keys_in, AreDecent}
+use Rattle.std.proofs.Math.Logic.{∥∥₁_map}
+use Rattle.cweb_system.specs.declared.bins.Folder.{Folder}
+use Rattle.cweb_system.specs.declared.file_set.FileSet.{FileSet}
+use Rattle.cweb_system.specs.declared.file_system.FileSystem.{Ghosts as FileSystem}
+use Rattle.cweb_system.specs.inner.FolderCalls.{KeepsFolder}
 
 -- Equal functions are equal at each argument.
 pub same_at : {A B : Type 0} {f g : A → B} → f ≡ g → (x : A) → f x ≡ g x
@@ -137,3 +140,14 @@ pub alone_set : {A : Type 0} (path : List ℕ) (key : FileKey) (mode : ℕ) (old
     → IsAlone key path new
 alone_set path key mode old new (Ok x) places sets same = alone_moded path key mode old new places sets
 alone_set path key mode old new (Err e) places sets same = grind arith
+
+abbrev pub FolderSteps : {F H : Type 0} (system : FileSystem F H) → Folder F H system → Type 0
+FolderSteps system folder =
+    OnDisk system.disk (λ see. AreDecent (keys_in folder.files.read) (see folder.fs).tree (see folder.fs).past)
+
+pub steps_kept : {F H : Type 0} (system : FileSystem F H) (old new : Folder F H system) → KeepsFolder system old new
+    → ∥ (FolderSteps system old) ∥₁ → ∥ (FolderSteps system new) ∥₁
+steps_kept {F = F} system old new keeps steps = ∥∥₁_map steps (λ (s : FolderSteps system old).
+    subst (λ (read : FileSet). OnDisk system.disk
+    (λ (see : F → Disk). AreDecent (keys_in read) (see new.fs).tree (see new.fs).past)) (sym keeps.read)
+    (λ some. keeps.decent.steps some (s some)))

@@ -7,22 +7,16 @@ use Rattle.cweb_system.specs.declared.bins.Folder.{Folder}
 use Rattle.cweb_system.specs.declared.drafts.path.Draft.{Draft}
 use Rattle.cweb_system.specs.declared.file_system.FileSystem.{Ghosts as FileSystem}
 use Rattle.cweb_system.specs.declared.folder_bins.FolderBins.{FolderBins}
-use Rattle.cweb_system.specs.declared.node.FileKey.{FileKey}
+use Rattle.cweb_system.specs.Tree.{FileKey, Tree, contents, rest}
 use Rattle.cweb_system.specs.declared.written.WrittenFile.{WrittenFile}
-use Rattle.cweb_system.specs.FileSet.{keys_in}
-use Rattle.cweb_system.specs.Steps.{Disk}
-use Rattle.cweb_system.specs.Tree.{Tree, contents, rest}
-
--- The contents of each file that can be opened, by its path.
-abbrev pub contents_in : Tree → List ℕ → Option (List ℕ)
-contents_in tree path = option_map tree.bytes (tree.target path)
+use Rattle.cweb_system.specs.Steps.{keys_in, Disk}
 
 -- A shelf over a file system that has counted no failure. No read of an observable file system fails.
 abbrev pub new_shelf : {F H : Type 0} → FileSystem F H → F → ShelfModel H
 new_shelf {F = F} system fs = record {
   failed = 0;
   contents = option_map (λ (see : F → Disk). record {
-    texts = contents_in (see fs).tree;
+    texts = λ path. option_map (see fs).tree.bytes ((see fs).tree.target path);
     left = λ reader. rest (see fs).tree (system.key reader) (system.position reader);
     opened_as = system.opened_as;
     blamed = [];

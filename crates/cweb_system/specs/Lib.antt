@@ -1,5 +1,4 @@
 pub mod inner
 pub mod Tree
 pub mod Steps
-pub mod FileSet
 pub mod Bins

@@ -1,9 +1,13 @@
--- The steps of a file system, and what one step may do to the entries that are no drafts.
-use Rattle.std.specs.Prelude.{◌≡◌, ◌⊎◌, ℕ, List, [], ◌∷◌, ◌++◌, Bool, Contains, IsTrue, IfOk, IsSome, OnErr, Option, None, Result, Ok, Err, ⊤, false}
+-- The steps of a file system, what one step may do to the entries that are no drafts, and sets of files.
+use Rattle.std.specs.Prelude.{◌≡◌, ◌⊎◌, ℕ, List, [], ◌∷◌, ◌++◌, Bool, Contains, IsTrue, IfOk, IsSome, OnErr, Option}
+use Rattle.std.specs.Prelude.{None, Result, Ok, Err, ⊤, false}
 use Rattle.std.specs.Option.{unwrap_or}
 use Rattle.cweb_system.specs.declared.node.FileFault.{FileFault}
-use Rattle.cweb_system.specs.declared.node.FileKey.{FileKey}
-use Rattle.cweb_system.specs.Tree.{Tree, IsFile, bytes_of}
+use Rattle.cweb_system.specs.Tree.{FileKey, Tree, IsFile, bytes_of}
+use Rattle.cweb_system.specs.declared.file_set.FileSet.{FileSet}
+
+abbrev pub keys_in : FileSet → List FileKey
+keys_in set = set.keys.keys
 
 -- What contracts know of an observable file system.
 pub record Disk : Type 0 where

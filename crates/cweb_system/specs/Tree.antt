@@ -1,6 +1,6 @@
 -- The state of a file system, and what each call does to it.
-use Rattle.std.specs.Prelude.{◌≡◌, ℕ, List, [], ◌++◌, Option, Some, None, IsSome, drop}
-use Rattle.cweb_system.specs.declared.node.FileKey.{FileKey}
+use Rattle.std.specs.Prelude.{◌≡◌, ℕ, List, [], ◌++◌, Option, Some, None, IsSome, IsSomeAnd, drop}
+pub use Rattle.cweb_system.specs.declared.node.FileKey.{FileKey}
 use Rattle.cweb_system.specs.declared.node.Node.{Node}
 
 -- A file system. Different spellings of a path may name one place, as `b` and `./b`. Paths of different places have
@@ -19,10 +19,14 @@ pub record Tree : Type 0 where
 abbrev pub at : Tree → List ℕ → Option Node
 at tree path = tree.node (tree.place path)
 
+-- The key of a regular file that was found.
+abbrev pub file_key : Option Node → Option FileKey
+file_key (Some (Node.File key mode)) = Some key
+file_key _ = None
+
 -- This is the regular file of this key.
 abbrev pub IsFile : FileKey → Option Node → Type 0
-IsFile key (Some (Node.File file mode)) = file ≡ key
-IsFile key _ = ⊥
+IsFile key found = IsSomeAnd (file_key found) (λ file. file ≡ key)
 
 -- The bytes of a file that was found.
 abbrev pub bytes_of : Tree → Option Node → List ℕ

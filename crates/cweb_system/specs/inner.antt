@@ -1,7 +1,5 @@
 -- Definitions that only the functions of this crate cite.
 pub mod Drafts
-pub mod FolderSound
-pub mod Keys
 pub mod StreamCalls
 pub mod Streams
 pub mod Written

@@ -1,14 +1,13 @@
 // Files of a file system as bins.
-ghost use Rattle.std.specs.Prelude.{◌≡◌, ◌≤◌, ◌<◌, ◌+◌, ◌^◌, ◌++◌, [], None, IsTrue, IsSome, IfSome, IfOk, IfErr, OnOk, OnErr};
+ghost use Rattle.std.specs.Prelude.{◌≡◌, ◌≤◌, ◌<◌, ◌+◌, ◌^◌, None, IsTrue, IsSome, IfSome, IfOk, IfErr, OnOk, OnErr};
 ghost use Rattle.std.specs.Prelude.{length, take, string_bytes};
+ghost use Rattle.std.proofs.Props.{props};
 ghost use Rattle.cweb_system.specs.Steps.{OnDisk};
-ghost use Rattle.cweb_system.specs.inner.Drafts.{IfCanBegin, IfCanPlace, IsCleared, KeepsMode};
-ghost use Rattle.cweb_system.specs.inner.FolderSound.{IsSound, IsSound_prop};
+ghost use Rattle.cweb_system.specs.inner.Drafts.{IfCanBegin, IfCanPlace, IsCleared, IsSound, KeepsMode};
 
 use crate::drafts::{Draft, begin, discard, put_in_place, write_to};
-use crate::file_system::FileSystem;
-use crate::node::FileFault;
 use crate::run_files::RunFiles;
+use crate::{FileFault, FileSystem};
 use cweb_files::{BinFault, SinkFault};
 use std::alloc::Global;
 
@@ -22,7 +21,7 @@ pub struct Folder<F: FileSystem + Drop> {
     /// Why the last draft was refused.
     pub refused: Option<BinFault>,
     pub failed: u64,
-    ghost sound: { IsSound F.disk F.key files draft fs } by { IsSound_prop },
+    ghost sound: { IsSound F.disk F.key files draft fs } by { Prim.hlevel props },
 }
 
 impl<F: FileSystem + Drop> Folder<F> {

@@ -1,11 +1,9 @@
 // Drafts: files that become outputs when they are renamed.
 ghost use Rattle.std.specs.Prelude.{◌≡◌, ◌++◌, ◌∷◌, [], IsTrue, IsErr, IfErr, IfOk, OnOk, string_bytes};
-ghost use Rattle.cweb_system.specs.FileSet.{keys_in};
-ghost use Rattle.cweb_system.specs.Steps.{OnDisk};
+ghost use Rattle.cweb_system.specs.Steps.{keys_in, OnDisk};
 ghost use Rattle.cweb_system.specs.inner.Drafts.{DraftIsThere, CanPut, HasCause, HasDraft, IfCanBegin, LeavesFiles};
 ghost use Rattle.cweb_system.specs.inner.Drafts.{Prepares};
-ghost use Rattle.cweb_system.specs.inner.Keys.{is_among};
-ghost use Rattle.cweb_system.specs.inner.Written.{HasFiles};
+ghost use Rattle.cweb_system.specs.inner.Written.{is_among, HasFiles};
 
 mod committing;
 mod creating;
@@ -15,9 +13,8 @@ mod way;
 
 use crate::drafts::creating::created;
 use crate::drafts::way::{Way, way_to};
-use crate::file_system::FileSystem;
-use crate::node::{FileFault, FileKey};
 use crate::run_files::RunFiles;
+use crate::{FileFault, FileKey, FileSystem};
 pub use committing::{discard, put_in_place};
 pub use path::{Draft, DraftPath};
 use std::alloc::{AllocError, Global};

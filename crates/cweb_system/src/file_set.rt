@@ -13,8 +13,8 @@ pub struct FileSet {
 }
 
 impl FileSet {
-    ghost use Rattle.cweb_system.specs.FileSet.{keys_in};
-    ghost use Rattle.cweb_system.specs.inner.Keys.{is_among};
+    ghost use Rattle.cweb_system.specs.Steps.{keys_in};
+    ghost use Rattle.cweb_system.specs.inner.Written.{is_among};
 
     /// An empty set.
     pub fn new(alloc: Global) -> Self

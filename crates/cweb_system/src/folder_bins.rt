@@ -1,6 +1,5 @@
 // Bins over a file system, observable if the file system is.
-ghost use Rattle.cweb_system.specs.FileSet.{keys_in};
-ghost use Rattle.cweb_system.specs.Steps.{AreDecent, OnDisk};
+ghost use Rattle.cweb_system.specs.Steps.{keys_in, AreDecent, OnDisk};
 
 use crate::bins::Folder;
 use crate::file_set::FileSet;
@@ -23,7 +22,7 @@ impl<F: FileSystem + Drop> FolderBins<F> {
     ghost use Rattle.cweb_system.specs.Bins.{bins_model, bins_read, bins_system, empty_bins};
 
     /// Bins that have committed no file. No output replaces a file in `read`.
-    pub fn new(alloc: Global, fs: F, read: FileSet) -> Self
+    pub(crate) fn new(alloc: Global, fs: F, read: FileSet) -> Self
         requires { OnDisk F.disk (λ see. (see fs).past ≡ []) }
         ensures system { bins_system result ≡ fs }
         ensures read { bins_read result ≡ keys_in read }

@@ -22,7 +22,6 @@ mod written;
 // the file system of the system
 mod std_folder;
 
-pub use file_set::FileSet;
 pub use file_system::FileSystem;
 pub use folder_bins::FolderBins;
 pub use node::{FileFault, FileKey, Node};

@@ -1,19 +1,17 @@
 // The files that a run has read and written.
-ghost use Rattle.std.specs.Prelude.{◌≡◌, ◌≤◌, ◌<◌, ◌++◌, ◌∷◌, [], All, Contains, IsTrue, OnOk, false, true, filter, not};
-ghost use Rattle.std.specs.Prelude.{string_bytes, vec_len, vec_capacity};
+ghost use Rattle.std.specs.Prelude.{◌≡◌, ◌<◌, ◌++◌, ◌∷◌, [], All, Some, Contains, IsTrue, OnOk, false, true, filter};
+ghost use Rattle.std.specs.Prelude.{not, string_bytes, vec_len, vec_capacity};
+ghost use Rattle.std.specs.Option.{option_copied};
 ghost use Rattle.std.specs.Str.{bytes_eq};
 ghost use Rattle.std.proofs.Props.{props};
-ghost use Rattle.cweb_system.specs.FileSet.{keys_in};
-ghost use Rattle.cweb_system.specs.Steps.{OnDisk};
-ghost use Rattle.cweb_system.specs.inner.Keys.{is_among};
-ghost use Rattle.cweb_system.specs.inner.Written.{HasFiles, HasNameAlone, IsNew, IsUnnamed};
+ghost use Rattle.cweb_system.specs.Steps.{keys_in, OnDisk};
+ghost use Rattle.cweb_system.specs.inner.Written.{is_among, HasFiles, IsNewBut, IsUnnamed};
 ghost use Rattle.cweb_system.specs.declared.written.WrittenFile.{WrittenFile};
 ghost use Rattle.cweb_system.specs.declared.node.FileKey.{FileKey};
 
 use crate::file_set::FileSet;
-use crate::file_system::FileSystem;
-use crate::node::FileKey;
-use crate::written::{WrittenFile, has_other_name, is_written, remove_named};
+use crate::written::{WrittenFile, is_written, remove_named};
+use crate::{FileKey, FileSystem};
 use std::alloc::{AllocError, Global};
 
 /// The files that a run has read and written.
@@ -42,24 +40,15 @@ impl RunFiles {
         }
     }
 
-    /// Whether the file of this key was written, and is still there.
-    pub fn has_written<F: FileSystem>(&self, fs: &F, key: FileKey) -> bool
+    /// Whether a file of this key was written under a name other than `but`, and is still there.
+    pub fn has_written<F: FileSystem>(&self, fs: &F, key: FileKey, but: Option<&str>) -> bool
         requires { HasFiles F.disk fs.now self.now.written.items }
         ensures value { result ≡ false →
-            OnDisk F.disk (λ _. IsNew key self.now.written.items) }
-        ensures none { IsNew key self.now.written.items → result ≡ false }
+            OnDisk F.disk (λ _. IsNewBut (option_copied but.entry) key self.now.written.items) }
+        ensures none { IsNewBut (option_copied but.entry) key self.now.written.items →
+            result ≡ false }
     {
-        self.created.contains(key) && is_written(fs, self.written.as_slice(), key)
-    }
-
-    /// Whether a file of this key was written under another name.
-    pub fn has_other_name<F: FileSystem>(&self, fs: &F, key: FileKey, name: &str) -> bool
-        requires { HasFiles F.disk fs.now self.now.written.items }
-        ensures value { result ≡ false →
-            OnDisk F.disk (λ _. HasNameAlone name.now key self.now.written.items) }
-        ensures none { HasNameAlone name.now key self.now.written.items → result ≡ false }
-    {
-        self.created.contains(key) && has_other_name(fs, self.written.as_slice(), key, name)
+        self.created.contains(key) && is_written(fs, self.written.as_slice(), key, but)
     }
 
     /// Whether an output of this name may replace a file: the run has neither read it nor written it under another name.
@@ -67,11 +56,11 @@ impl RunFiles {
         requires { HasFiles F.disk fs.now self.now.written.items }
         ensures unread { result ≡ true → Contains (keys_in self.now.read) key → ⊥ }
         ensures name { result ≡ true →
-            OnDisk F.disk (λ _. HasNameAlone name.now key self.now.written.items) }
+            OnDisk F.disk (λ _. IsNewBut (Some name.now) key self.now.written.items) }
         ensures free { (Contains (keys_in self.now.read) key → ⊥) →
-            HasNameAlone name.now key self.now.written.items → result ≡ true }
+            IsNewBut (Some name.now) key self.now.written.items → result ≡ true }
     {
-        !self.read.contains(key) && !self.has_other_name(fs, key, name)
+        !self.read.contains(key) && !self.has_written(fs, key, Some(name))
     }
 
     /// Makes room for one more committed file.

@@ -1,16 +1,13 @@
 // The files of a file system as a shelf.
-ghost use Rattle.std.specs.Prelude.{◌≡◌, [], None, Some, IsTrue, IsSome, IfOk, IfSome, MatchResult, length, option_map};
-ghost use Rattle.std.specs.Option.{unwrap_or};
+ghost use Rattle.std.specs.Prelude.{◌≡◌, [], IsTrue, IsSome, IfOk, MatchResult, length};
 ghost use Rattle.std.proofs.Props.{props};
-ghost use Rattle.cweb_system.specs.FileSet.{keys_in};
 ghost use Rattle.cweb_system.specs.Steps.{OnDisk};
+ghost use Rattle.cweb_system.specs.declared.node.FileKey.{FileKey};
 ghost use Rattle.cweb_system.specs.Tree.{IsAbsent, Opens};
-ghost use Rattle.cweb_system.specs.inner.Keys.{KeepsRead, is_among};
+ghost use Rattle.cweb_system.specs.inner.Written.{is_among};
 
 use crate::file_set::FileSet;
-use crate::file_system::FileSystem;
-use crate::folder_bins::FolderBins;
-use crate::node::FileFault;
+use crate::{FileFault, FileSystem, FolderBins};
 use cweb_files::{Shelf, ShelfFault};
 use std::alloc::{AllocError, Global};
 
@@ -18,8 +15,8 @@ use std::alloc::{AllocError, Global};
 #[derive(Drop)]
 pub struct FolderShelf<F: FileSystem + Drop> {
     fs: F,
-    /// Each file that was opened, if they are recorded.
-    read: Option<FileSet>,
+    /// Each file that was opened.
+    read: FileSet,
     failed: u64,
     /// In an observable file system no read fails.
     ghost whole: { IsSome F.disk → failed ≡ 0 } by { Prim.hlevel props },
@@ -31,30 +28,16 @@ impl<F: FileSystem + Drop> FolderShelf<F> {
     ghost use Rattle.cweb_system.specs.Bins.{bins_model, bins_read, bins_system, empty_bins, new_shelf};
     ghost use Rattle.cweb_system.specs.inner.FolderCalls.{shelf_model, shelf_read, shelf_system};
 
-    /// A shelf that doesn't record what it opens.
-    pub fn new(fs: F) -> Self
+    /// A shelf that has opened no file. It records each file that it opens, so that no output replaces it.
+    pub fn new(alloc: Global, fs: F) -> Self
         requires { OnDisk F.disk (λ see. (see fs).past ≡ []) }
         ensures system { shelf_system result ≡ fs }
         ensures model { shelf_model F.FileSystem result ≡ new_shelf F.FileSystem fs }
-        ensures read { shelf_read result ≡ None }
+        ensures read { shelf_read result ≡ [] }
     {
         FolderShelf {
             fs,
-            read: None,
-            failed: 0,
-        }
-    }
-
-    /// A shelf that records each file that it opens, so that no output replaces it.
-    pub fn noting(fs: F, read: FileSet) -> Self
-        requires { OnDisk F.disk (λ see. (see fs).past ≡ []) }
-        ensures system { shelf_system result ≡ fs }
-        ensures model { shelf_model F.FileSystem result ≡ new_shelf F.FileSystem fs }
-        ensures read { shelf_read result ≡ Some (keys_in read) }
-    {
-        FolderShelf {
-            fs,
-            read: Some(read),
+            read: FileSet::new(alloc),
             failed: 0,
         }
     }
@@ -62,11 +45,11 @@ impl<F: FileSystem + Drop> FolderShelf<F> {
     /// Bins of the file system. No output replaces a file that was recorded.
     pub fn into_bins(self, alloc: Global) -> FolderBins<F>
         ensures system { bins_system result ≡ shelf_system self }
-        ensures read { bins_read result ≡ unwrap_or (shelf_read self) [] }
+        ensures read { bins_read result ≡ shelf_read self }
         ensures empty { bins_model F.FileSystem result ≡ empty_bins F.FileSystem }
     {
         let FolderShelf { fs, read, .. } = self;
-        FolderBins::new(alloc, fs, recorded(alloc, read))
+        FolderBins::new(alloc, fs, read)
     }
 
     /// Opens a file and records it. It is an error if the system has no identity for the file.
@@ -79,25 +62,13 @@ impl<F: FileSystem + Drop> FolderShelf<F> {
             (λ fault. (fault ≡ FileFault.Memory → ⊥) →
             IsAbsent name.now (see (shelf_system self.old)).tree)) }
         ensures recorded { OnDisk F.disk (λ _. IfOk result (λ file.
-            IfSome (shelf_read self.new) (λ keys. IsTrue (is_among keys (F.key file))))) }
-        ensures kept { KeepsRead (shelf_read self.old) (shelf_read self.new) }
+            IsTrue (is_among (shelf_read self.new) (F.key file)))) }
+        ensures kept { (key : FileKey) → IsTrue (is_among (shelf_read self.old) key) →
+            IsTrue (is_among (shelf_read self.new) key) }
     {
         let file = self.fs.open(name)?;
-        if let Some(read) = &mut self.read {
-            let key = self.fs.key_of(&file)?;
-            read.insert(key)?;
-        }
+        self.read.insert(self.fs.key_of(&file)?)?;
         Ok(file)
-    }
-}
-
-/// The files that were recorded, if any.
-fn recorded(alloc: Global, read: Option<FileSet>) -> FileSet
-    ensures { keys_in result ≡ unwrap_or (option_map keys_in read) [] }
-{
-    match read {
-        Some(read) => read,
-        None => FileSet::new(alloc),
     }
 }
 

@@ -3,9 +3,8 @@ ghost use Rattle.std.specs.Prelude.{◌≡◌, ◌≤◌, ◌%◌, [], None, len
 ghost use Rattle.std.specs.Io.KnownBytes.{ReadConsumes};
 ghost use Rattle.cweb_system.specs.inner.StreamCalls.{WritesPart};
 
-use crate::file_system::FileSystem;
-use crate::node::{FileFault, FileKey, Node};
 use crate::streams::{read_once, write_once};
+use crate::{FileFault, FileKey, FileSystem, Node};
 use std::alloc::Global;
 use std::fs::{File, Metadata, OpenFile, OpenOptions, Permissions};
 use std::io::{Error, ErrorKind};

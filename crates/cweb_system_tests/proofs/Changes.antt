@@ -13,7 +13,7 @@ use Rattle.cweb_system_tests.specs.declared.memory_folder.steps.NewFile.{NewFile
 use Rattle.cweb_system_tests.specs.declared.memory_folder.steps.Renaming.{Renaming}
 use Rattle.cweb_system_tests.specs.inner.Layout.{place_in}
 use Rattle.cweb_system_tests.specs.inner.Log.{IsNewFile, IsRenaming, Puts, bytes_by, bytes_step, node_step, nodes_by, past_by, tree_of, node_with_mode}
-use Rattle.cweb_system.specs.inner.Keys.{key_eq}
+use Rattle.cweb_system.specs.inner.Written.{key_eq}
 use Rattle.cweb_system.proofs.Keys.{key_self}
 use Rattle.cweb_system_tests.proofs.Keys.{key_apart, path_apart, path_same}
 

@@ -3,7 +3,7 @@ use Rattle.std.proofs.Common.{◌≡◌, ℕ, List, Bool, true, false, refl}
 use Rattle.std.proofs.lemmas.Slice.Eq.{bytes_eq-Decides}
 use Rattle.std.specs.Str.{bytes_eq}
 use Rattle.cweb_system.specs.declared.node.FileKey.{FileKey}
-use Rattle.cweb_system.specs.inner.Keys.{key_eq}
+use Rattle.cweb_system.specs.inner.Written.{key_eq}
 use Rattle.cweb_system.proofs.Keys.{key_is}
 
 not_true : (b : Bool) → (b ≡ true → ⊥) → b ≡ false

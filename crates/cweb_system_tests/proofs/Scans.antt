@@ -11,7 +11,7 @@ use Rattle.cweb_system_tests.specs.declared.memory_folder.log.Change.TheVariants
 use Rattle.cweb_system.specs.declared.node.FileKey.{FileKey}
 use Rattle.cweb_system.specs.declared.node.Node.{Node}
 use Rattle.cweb_system.specs.Tree.{IsFile}
-use Rattle.cweb_system.specs.inner.Keys.{key_eq}
+use Rattle.cweb_system.specs.inner.Written.{key_eq}
 use Rattle.cweb_system_tests.specs.inner.Log.{IsAbove, KeysBelow, bytes_by, bytes_step, node_step, node_with_mode, nodes_by}
 use Rattle.cweb_system_tests.proofs.Changes.{bytes_more, nodes_more}
 

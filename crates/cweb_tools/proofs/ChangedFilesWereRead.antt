@@ -102,7 +102,7 @@ ends_read shown course {old = old} {new = new} (stops (ending stop about) mid ru
     grind (arith, all_read, script_reads_first, inl, inr)
 
 -- If the output differs, everything was read.
-pub read_if_changed : {A : Type 0} (part : SinkModel → A) {acts : List Act} {old new : Devices}
-    → (new.out ≡ old.out) ⊎ HasReadAll acts old new → part new.out ≢ part old.out → HasReadAll acts old new
-read_if_changed part (inl same) changed = absurd (changed (ap part same))
-read_if_changed part (inr all) changed = all
+pub read_if_changed : {acts : List Act} {old new : Devices} → (new.out ≡ old.out) ⊎ HasReadAll acts old new
+    → new.out.contents ≢ old.out.contents → HasReadAll acts old new
+read_if_changed (inl same) changed = absurd (changed (ap (λ (out : SinkModel). out.contents) same))
+read_if_changed (inr all) changed = all

@@ -5,7 +5,6 @@ pub use Rattle.std.proofs.Common.{◌≡◌, inl, inr, ◌∷◌, sym, ◌∙◌
 pub use Rattle.std.proofs.Common.{◌-◌, eq-eqb}
 pub use Rattle.std.proofs.Math.Bool.{and-false, and-true, or-false, or-true}
 pub use Rattle.std.proofs.Math.ListN.{get_or-append}
-pub use Rattle.std.proofs.Math.Seq.{take-suc}
 pub use Rattle.std.proofs.lemmas.Bool.{and_parts, or_parts, and_from, not-true, ne_eqb}
 pub use Rattle.std.proofs.lemmas.Bool.Decides.{nat_tests}
 pub use Rattle.std.proofs.lemmas.Grind.{flat_map-append, common_steps}
@@ -26,7 +25,6 @@ pub use Rattle.cweb_files.specs.Files.{File}
 pub use Rattle.cweb_files.specs.Sinks.{FailsWithin, SinkContents, SinkModel, appended, changed, committed, failing}
 pub use Rattle.cweb_files.specs.Sinks.{with_draft, with_printed, without_draft, without_file, written}
 pub use Rattle.cweb_files.specs.declared.bins.BinFault.TheVariants.{Device}
-pub use Rattle.cweb_files.specs.declared.device.SinkFault.{SinkFault}
 pub use Rattle.cweb_files.specs.declared.place.FileId.{FileId}
 pub use Rattle.cweb_files.specs.declared.place.Place.{Place}
 pub use Rattle.cweb_files.specs.surface.Writes.{WritesPrefix, Wrote}
@@ -45,7 +43,7 @@ pub use Rattle.cweb_lines.specs.declared.stop.Stop.{Stop}
 pub use Rattle.cweb_lines.specs.declared.stop.Stop.TheVariants.{LogFault, Memory, Usage, WebNotOpened, ChangeNotOpened}
 pub use Rattle.cweb_lines.specs.declared.stop.Stop.TheVariants.{ReadFault, LineTooLong, TooMuchText, OutNotOpened}
 pub use Rattle.cweb_lines.specs.declared.stop.Stop.TheVariants.{WriteFault}
-pub use Rattle.cweb_lines.specs.surface.EnoughSteps.{merge}
+pub use Rattle.cweb_lines.specs.surface.MergeProgress.{merge}
 pub use Rattle.cweb_lines.specs.surface.MergeProgress.{SoFar, EmitsLines, StopsAfterLines, ReportsPrefix}
 pub use Rattle.cweb_lines.specs.surface.MergerCalls.{BeginsMerge, StopsAtStart, so_far}
 pub use Rattle.cweb_lines.specs.surface.OpenSources.{files_named, StartStops, StopsReading, StopsFor}
@@ -94,7 +92,6 @@ pub use Rattle.cweb_store.specs.Names.{Occurrence, id}
 pub use Rattle.cweb_store.specs.Parts.{Part, is_macro, Token, Mark, Name, Defs, all_tokens, is_of, is_unnamed, Word}
 pub use Rattle.cweb_store.specs.Parts.{Number, Literal, Verbatim, Punct, Blank, Newline, Join, Head, Tail}
 pub use Rattle.cweb_store.specs.declared.name.How.TheVariants.{Full, Prefix}
-pub use Rattle.cweb_store.specs.declared.name.NameFault.{NameFault}
 pub use Rattle.cweb_store.specs.declared.name.NameId.{NameId}
 pub use Rattle.cweb_store.specs.declared.name.NameRef.{NameRef}
 pub use Rattle.cweb_store.specs.declared.parts.PartKind.{PartKind}
@@ -109,7 +106,7 @@ pub use Rattle.cweb_tools.specs.Acts.{FailsOutput, logged_items, acts_status, Fo
 pub use Rattle.cweb_tools.specs.CommandLine.{OptionsModel, options_by, shown_by_default, WebNames, web_names_by}
 pub use Rattle.cweb_tools.specs.CommandLine.{TangleNames, named_by, names_by, other_words, words_shown, stem}
 pub use Rattle.cweb_tools.specs.CommandLine.{letters_shown, is_dot, has_extension}
-pub use Rattle.cweb_tools.specs.Course.{Course, merging, IsMergeCourse, change_name, world_of}
+pub use Rattle.cweb_tools.specs.MergeActs.{Course, merging, IsMergeCourse, change_name, world_of}
 pub use Rattle.cweb_tools.specs.Depend.{depend_acts, depend_plan_acts, depend_web_acts}
 pub use Rattle.cweb_tools.specs.DeviceModels.{Devices, FailedReads, Logs, contents_of, devices, failed_reads}
 pub use Rattle.cweb_tools.specs.DeviceModels.{log_failed, logged}
@@ -118,7 +115,7 @@ pub use Rattle.cweb_tools.specs.Headline.{DoesActsFreely, files_in}
 pub use Rattle.cweb_tools.specs.Items.{line, LogItem, is_fault, source_item, fault, starred, located, banner, closing}
 pub use Rattle.cweb_tools.specs.Items.{faults, no_errors, no_text, see_warning, stopped, name_item, name_items}
 pub use Rattle.cweb_tools.specs.Items.{scan_item, refusal_message, star, cycle_step}
-pub use Rattle.cweb_tools.specs.Log.{stop_line, file_name_at}
+pub use Rattle.cweb_tools.specs.Items.{stop_line, file_name_at}
 pub use Rattle.cweb_tools.specs.MergeActs.{merge_acts, MergeCanCome, merge_devices}
 pub use Rattle.cweb_tools.specs.Script.{Numbers, closing_acts, unread, not_there, change_not_there, Planning, refused}
 pub use Rattle.cweb_tools.specs.Script.{Web, planned_acts, script, starred_acts, tangling, when, output_acts}
@@ -131,14 +128,13 @@ pub use Rattle.cweb_tools.specs.declared.options.Shown.{Shown}
 pub use Rattle.cweb_tools.specs.declared.outputs.Failed.{Failed}
 pub use Rattle.cweb_tools.specs.inner.Does.{ending_of, found_course, merge_course, EndsMerge, at, Does, DoesInOut}
 pub use Rattle.cweb_tools.specs.inner.Does.{DoesInBoth, DoesInLog, EndsInBoth, EndsInLog, log_ending}
-pub use Rattle.cweb_tools.specs.inner.Expanders.{StaysReady, left_in, IsReady, output_ending, file_at, planned_files}
-pub use Rattle.cweb_tools.specs.inner.LogText.{items_of, start_subject, subject, plan_item, joined_parts, part_bytes}
-pub use Rattle.cweb_tools.specs.inner.LogText.{chunks_of, Buffers, AppendsToLog}
+pub use Rattle.cweb_tools.specs.inner.Tangle.{StaysReady, left_in, IsReady, output_ending, file_at, planned_files}
+pub use Rattle.cweb_tools.specs.inner.LogText.{items_of, start_subject, subject, plan_item, joined_parts, refusal_in}
+pub use Rattle.cweb_tools.specs.inner.LogText.{chunks_of, Buffers, AppendsToLog, part_bytes}
 pub use Rattle.cweb_tools.specs.inner.RuleModel.{dependencies}
 pub use Rattle.cweb_tools.specs.inner.Tangle.{plan_made, fault_count, EndsAs, tangle_course, LaterActs, opening_acts}
-pub use Rattle.cweb_tools.specs.inner.Tangle.{status_by, refusal_in, files_of, faults_of}
-pub use Rattle.cweb_tools.specs.laws.LeftDevices.{draft_in, last_refusal}
+pub use Rattle.cweb_tools.specs.inner.Tangle.{status_by, files_of, faults_of}
+pub use Rattle.cweb_tools.specs.laws.RunEffects.{draft_in, last_refusal, FailsOnce, ReportsFaults, RisesOnce}
 pub use Rattle.cweb_tools.specs.laws.RunEffects.{HasReadAll, LeavesFiles, bins_blame, read_failures_of, tangle_files}
-pub use Rattle.cweb_tools.specs.laws.RunEffects.{tangle_status, LeavesDevices, PrintsActs, DoesAll, IsEnded, IsStopped}
-pub use Rattle.cweb_tools.specs.laws.RunEffects.{RisesOnce, TangleFailsOnce, TangleReportsFaults}
+pub use Rattle.cweb_tools.specs.laws.RunEffects.{tangle_status, LeavesDevices, PrintsActs, IsEnded, IsStopped}
 pub use Rattle.cweb_tools.specs.surface.Options.{options_of}

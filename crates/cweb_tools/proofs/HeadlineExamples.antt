@@ -11,7 +11,7 @@ use Rattle.cweb_tools.specs.Depend.{DependsFreely, targets_by}
 use Rattle.cweb_tools.specs.MergeActs.{MergesFreely}
 use Rattle.cweb_tools.specs.Tangle.{TanglesFreely}
 use Rattle.cweb_tools.specs.declared.rule_targets.Targets.TheVariants.{All}
-use Rattle.cweb_tools.proofs.Courses.{merge_comes, tangle_comes}
+use Rattle.cweb_tools.proofs.TanglePromisesProved.{merge_comes, tangle_comes}
 use Rattle.cweb_tools.proofs.ScriptExamples.{tangle_log}
 use Rattle.cweb_tools.proofs.TangleExamples.{Left, events_of, file, hello_run, hello_text, text_in}
 

@@ -6,8 +6,8 @@ use Rattle.std.specs.Prelude.{fold, option_map}
 use Rattle.cweb_tools.specs.Items.{writing}
 use Rattle.cweb_files.specs.declared.place.Place.{Place}
 use Rattle.cweb_lines.specs.Events.{emitted}
-use Rattle.cweb_tools.specs.Course as course
-use Rattle.cweb_tools.proofs.Courses.{tangle_only}
+use Rattle.cweb_tools.specs.MergeActs as course
+use Rattle.cweb_tools.proofs.TanglePromisesProved.{tangle_only}
 use Rattle.cweb_tools.proofs.TangleExamples.{file}
 
 -- The acts of one output.

@@ -77,17 +77,6 @@ TanglesIn system fs inputs args first log out log' status =
     KeepsInFolder (TanglePromises (world_of_shelf (new_shelf system fs) inputs) args)
     (at (failed_reads (new_shelf system fs)) first log) out log' status
 
--- A run of `ctangle` that ends before it reads.
-pub unread_in : {F H : Type 0} (system : FileSystem F H) (fs : F) (inputs : Option (List ℕ))
-    (args : Option OptionsModel) (out : SinkModel) (log log' : SinkModel) (status : ℕ)
-    → out ≡ (devices_before system fs log).out
-    → TanglePromises (world_of_shelf (new_shelf system fs) inputs) args
-    (at (failed_reads (new_shelf system fs)) out log) (at (failed_reads (new_shelf system fs)) out log') status
-    → TanglesIn system fs inputs args (devices_before system fs log).out log out log' status
-unread_in system fs inputs args out log log' status is run =
-    subst (λ (m : SinkModel). TanglesIn system fs inputs args m log out log' status) is
-    (record { shelf = failed_reads (new_shelf system fs); reads = λ some. refl; promises = run })
-
 -- A run of `ctangle` over a new shelf, whose bins take over the file system from the shelf.
 pub tangles_in : {F H : Type 0} (system : FileSystem F H) (fs : F) (inputs : Option (List ℕ))
     (args : Option OptionsModel) (shelf shelf' : FolderShelf F H system) (bins : FolderBins F H system)

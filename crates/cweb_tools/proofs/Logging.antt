@@ -1,7 +1,8 @@
--- Logging of items is the doing of acts.
-use Rattle.cweb_tools.proofs.Common.{◌≡◌, ◌<◌, ◌⊎◌, inl, inr, ℕ, zero, suc, List, [], ◌∷◌, ◌++◌, map, refl, sym, ◌∙◌, ap, append-nil, length, arith, flat_map, ◌==◌, Bool, true, false, None, Some, Result, Ok, Err, LogFault, Wrote, FailsWithin, Logs, logged, log_failed, written, LogItem, line, starred, SinkModel, FailedReads, ending, PerformsActs, says, at, DoesInLog, log_ending, starred_acts, when}
+-- Logging of items is the doing of acts. The faults of a web as items: their number and their lines.
+use Rattle.cweb_tools.proofs.Common.{◌≡◌, ◌<◌, ◌⊎◌, inl, inr, ℕ, zero, suc, List, [], ◌∷◌, ◌++◌, map, refl, sym, ◌∙◌, ap, append-nil, length, arith, flat_map, ◌==◌, Bool, true, false, None, Some, Result, Ok, Err, LogFault, Wrote, FailsWithin, Logs, logged, log_failed, written, LogItem, line, starred, SinkModel, FailedReads, ending, PerformsActs, says, at, DoesInLog, log_ending, starred_acts, when, ◌+◌, cond, length-append, flat_map-append, length-map, sum_by-append, sum_by-cons, count_by, SourceFault, Part, is_macro, numbers_from, numbers_where, PartKind, Scanned, fault_count, is_fault, source_item, name_items, scan_item, EndsInLog, acts_status, web_of}
 use Rattle.cweb_files.proofs.Appending.{appended_on, written_none, written_then}
-use Rattle.cweb_tools.proofs.Doing.{does_none}
+use Rattle.cweb_tools.proofs.Doing.{does_none, ends_reported}
+use Rattle.cweb_store.specs.Faults as store
 
 -- Two ways to split a list of bytes: one prefix is a prefix of the other.
 abbrev Cuts : List ℕ → List ℕ → List ℕ → List ℕ → Type 0
@@ -90,3 +91,72 @@ pub said_starred : {A E : Type 0} (r : Result A E) (progress : Bool) (numbers : 
     → DoesInLog (starred_acts progress numbers) (log_ending r) old new
 said_starred r progress [] is some writes = absurd (omega (arith, some))
 said_starred r progress (n ∷ numbers) is some writes = said_when r progress (starred (n ∷ numbers)) is writes
+
+-- The faults of the files, the source and the names.
+abbrev fault_items : List (List ℕ) → List SourceFault → Scanned → List LogItem
+fault_items files faults made = (web_of files faults made []).faults
+
+-- A list of items that are all faults.
+all_count : {X : Type 0} (f : X → LogItem) (xs : List X)
+    → ((x : X) → is_fault (f x) ≡ true) → fault_count (map f xs) ≡ length xs
+all_count f [] is = refl
+all_count f (x ∷ xs) is =
+    let one : ◌≡◌ {A = ℕ} (cond (is_fault (f x)) 1 0) 1 = ap (λ (b : Bool). cond b 1 0) (is x) in
+    omega (arith, sum_by-cons (λ (item : LogItem). cond (is_fault item) 1 0) (f x) (map f xs), one, all_count f xs is)
+
+pub all_counted : (files : List (List ℕ)) (faults : List SourceFault) (made : Scanned)
+    → fault_count (fault_items files faults made)
+    ≡ length faults + (length made.faults + length (store.faults made.store.occurrences made.store.parts))
+all_counted files faults made = grind (arith, all_count, sum_by-append)
+
+-- The fault count is the number of items.
+pub counted_all : (files : List (List ℕ)) (faults : List SourceFault) (made : Scanned)
+    → fault_count (fault_items files faults made) ≡ length (fault_items files faults made)
+counted_all files faults made = grind (arith, all_counted, length-append, length-map)
+
+-- Without faults nothing is logged.
+pub none_said : (items : List LogItem) {stream : SinkModel}
+    → length items ≡ 0 → DoesInLog (map says items) None stream stream
+none_said [] {stream} none = said_none
+none_said (item ∷ items) none = absurd (omega (arith, none))
+
+pub some_said : {A E : Type 0} (r : Result A E) (items : List LogItem) {old new : SinkModel} → 0 < length items
+    → Wrote (flat_map line items) old new r → DoesInLog (map says items) (log_ending r) old new
+some_said r [] some writes = absurd (omega (arith, some))
+some_said r (item ∷ items) {old} {new} some writes = said_all r item items writes
+
+-- The faults of a merge were logged, and the status is 1.
+pub faults_said : {A E : Type 0} (r : Result A E) (files : List (List ℕ)) (faults : List SourceFault)
+    {old new : SinkModel} → (length faults ≡ 0 → ⊥)
+    → Wrote (flat_map line (map (source_item files) faults)) old new r
+    → EndsInLog (map says (map (source_item files) faults)) (acts_status (map says (map (source_item files) faults)))
+    old new 1
+faults_said r files [] some writes = absurd (some refl)
+faults_said r files (met ∷ faults) some writes = ends_reported r
+    (said_all r (source_item files met) (map (source_item files) faults) writes) refl refl
+
+-- The lines of a web's faults are those of its files, its source and its names.
+pub fault_text : (files : List (List ℕ)) (faults : List SourceFault) (made : Scanned)
+    → flat_map line (fault_items files faults made) ≡
+    flat_map line (map (source_item files) faults)
+    ++ (flat_map line (map (scan_item files) made.faults) ++ flat_map line (name_items made.store))
+fault_text files faults made = grind (arith, flat_map-append)
+
+-- The number of macros.
+numbers_counted : (test : PartKind → Bool) (parts : List Part) (n : ℕ)
+    → length (numbers_from test n parts) ≡ count_by (λ (part : Part). test part.kind) parts
+numbers_counted test [] n = refl
+numbers_counted test (p ∷ parts) n =
+    let rest : length (numbers_from test (n + length p.tokens) parts)
+    ≡ count_by (λ (part : Part). test part.kind) parts = numbers_counted test parts (n + length p.tokens) in
+    let split = sum_by-cons (λ (part : Part). cond (test part.kind) 1 0) p parts in
+    (elim (test p.kind) as (λ b. length (cond b ((record { first = n; after = n + length p.tokens }) ∷ numbers_from test
+    (n + length p.tokens) parts) (numbers_from test (n + length p.tokens) parts))
+    ≡ cond b 1 0 + count_by (λ (part : Part). test part.kind) parts) [
+      | true ↦ omega (arith, rest)
+      | false ↦ omega (arith, rest)
+    ]) ∙ sym split
+
+pub macros_counted : (parts : List Part)
+    → length (numbers_where is_macro parts) ≡ count_by (λ (part : Part). is_macro part.kind) parts
+macros_counted parts = numbers_counted is_macro parts 0

@@ -1,13 +1,62 @@
--- The exits of a merge that has begun.
-use Rattle.cweb_tools.proofs.Common.{◌≤◌, ◌≡◌, inl, inr, ℕ, ◌+◌, List, [], ◌∷◌, ◌++◌, length, map, refl, sym, subst, ◌∙◌, ap, append-nil, Option, Some, IsSome, names_found, World, Found, Event, SoFar, EmitsLines, ReportsPrefix, files_named, emitted_lines, reported_faults, openings, taken_lines, IsWithinLimits, BeginsMerge, written_lines, StopsWriting, WritingStops, WritesPrefix, SourceFault, LINES, BYTES, Stop, Logs, stop_line, subject, source_item, SinkModel, FailedReads, Devices, LogItem, WebNames, Course, merging, found_course, FollowsActs, MergeCanCome, merge_acts, acts_status, judges, opens, says, merges, at, Breaks, ending, appended, changed, with_printed, write_failures_of, RunEnds, EndsInLog}
+-- The exits of a run of `wmerge`, before and after its merge began.
+use Rattle.cweb_tools.proofs.Common.{◌≤◌, ◌≡◌, inl, inr, ℕ, ◌+◌, List, [], ◌∷◌, ◌++◌, length, map, refl, sym, subst, ◌∙◌, ap, append-nil, Option, Some, IsSome, names_found, World, Found, Event, SoFar, EmitsLines, ReportsPrefix, files_named, emitted_lines, reported_faults, openings, taken_lines, IsWithinLimits, BeginsMerge, written_lines, StopsWriting, WritingStops, WritesPrefix, SourceFault, LINES, BYTES, Stop, Logs, stop_line, subject, source_item, SinkModel, FailedReads, Devices, LogItem, WebNames, Course, merging, found_course, FollowsActs, MergeCanCome, merge_acts, acts_status, judges, opens, says, merges, at, Breaks, ending, appended, changed, with_printed, write_failures_of, RunEnds, EndsInLog, None, StartStops, StopsAtStart, WebNotOpened, ChangeNotOpened, Memory, start_subject, stopped, line, merge_course, change_name, EndsMerge}
 use Rattle.cweb_lines.specs.Events.{fault}
-use Rattle.cweb_tools.proofs.Carried.{either}
+use Rattle.cweb_tools.proofs.Exits.{either, begins_course, opened_by, names_reported, faults_reported, limits_kept}
 use Rattle.cweb_tools.proofs.Doing.{ends_halted, ends_on}
-use Rattle.cweb_tools.proofs.Exits.{begins_course, opened_by, names_reported, faults_reported, limits_kept}
 use Rattle.cweb_tools.proofs.Broken.{shelf_after}
-use Rattle.cweb_tools.proofs.MergeDevices.{out_is}
-use Rattle.cweb_tools.proofs.MergeStops.{out_after, writing_ends, left_after, prints_so, prints_none}
+use Rattle.cweb_tools.proofs.MergeStops.{out_is, out_after, writing_ends, left_after, prints_so, prints_none, out_of}
 use Rattle.cweb_tools.proofs.ReadingStops.{read_by, nothing_passes}
+use Rattle.cweb_tools.proofs.TanglePromisesProved.{no_change, no_web}
+use Rattle.cweb_tools.proofs.RunEnds.{Judges, memory_stops}
+use Rattle.cweb_tools.proofs.TangleExits.{reported_last}
+use Rattle.cweb_tools.specs.MergeActs.{unread, not_there, change_not_there}
+
+-- The acts of a course that the words allow.
+pub begins_acts : (names : WebNames) (course : Course) → MergeCanCome (Some names) course → Judges (merge_acts course)
+begins_acts names unread can = absurd can
+begins_acts names (not_there web) can = (_, refl)
+begins_acts names (change_not_there change) can = (_, refl)
+begins_acts names (merging first events) can = (_, refl)
+
+pub can_merge : (names : WebNames) (world : World) (found : Option Found) (changes : Option (Option Found))
+    → MergeCanCome (Some names) (found_course world names found changes)
+can_merge names world None changes = refl
+can_merge names world (Some web) None = refl
+can_merge names world (Some web) (Some change) = tt
+
+pub can_run : (world : World) (args : Option WebNames) → MergeCanCome args (merge_course world args)
+can_run world None = tt
+can_run world (Some names) = can_merge names world _ _
+
+-- A merge could not begin.
+module _ (world : World) (names : WebNames) (shelf : FailedReads) (out : SinkModel) (l l' : SinkModel) (status : ℕ)
+    (answered : status ≡ 1) where
+  ends_said : (item : LogItem) → Logs (line item) l l' → RunEnds (judges ∷ opens ∷ says item ∷ []) 1
+      (at shelf (out_of shelf out) l) (at shelf (out_of shelf out) l') status
+  ends_said item logs = ends_on {xs = judges ∷ opens ∷ []} {mid = at shelf (out_of shelf out) l}
+      (record { runs = inl (tt, inl (tt, refl)) }) (rw answered (reported_last item shelf (out_of shelf out) logs))
+
+  pub start_stopped : (found : Option Found) (changes : Option (Option Found)) (stop : Stop) → StartStops stop
+      → (IsSome shelf.blamed → StopsAtStart stop found changes)
+      → Logs (stop_line stop (start_subject names.web (change_name names.change) stop)) l l'
+      → EndsMerge (Some names) (found_course world names found changes) (at shelf out l) (at shelf out l') status
+  start_stopped found changes WebNotOpened comes why logs = record {
+    course = not_there names.web;
+    can = refl;
+    is = λ tell. no_web world names found changes (why tell);
+    ends = ends_said (stopped WebNotOpened names.web) logs;
+  }
+  start_stopped found changes ChangeNotOpened comes why logs = record {
+    course = change_not_there (change_name names.change);
+    can = refl;
+    is = λ tell. no_change world names found changes (why tell).0 (why tell).1;
+    ends = ends_said (stopped ChangeNotOpened (change_name names.change)) logs;
+  }
+  start_stopped found changes Memory comes why logs =
+      let can = can_merge names world found changes in
+      memory_stops merge_acts {CanBe = MergeCanCome (Some names)} (found_course world names found changes) can
+      (begins_acts names _ can) shelf (out_of shelf out) logs answered
+  start_stopped found changes stop comes why logs = absurd comes
 
 -- Faults that an unobservable shelf may have had.
 opens_none : (faults : List SourceFault) → openings (map fault faults) ≡ []

@@ -1,18 +1,24 @@
 -- The ends of a run of `wmerge` keep its promises.
-use Rattle.cweb_tools.proofs.Common.{◌≤◌, ◌≡◌, inl, inr, ℕ, ◌+◌, List, [], ◌∷◌, ◌++◌, sym, ◌∙◌, append-nil, append_assoc, arith, subst, Option, Some, IsSome, World, read_failures_of, bins_blame, emitted_lines, written_lines, Stop, ReadFault, OutNotOpened, WriteFault, WebNames, Course, IsMergeCourse, merge_acts, merge_devices, PrintsActs, ActsKeepLimits, Act, writes, merges, prints, after_act, changed, with_printed, ending, Breaks, Devices, SinkModel, PerformsActs, RunEnds, completes, stops, printed_bytes, written_files, RisesOnce}
+use Rattle.cweb_tools.proofs.Common.{◌≡◌, inl, inr, ℕ, ◌+◌, List, [], ◌∷◌, ◌++◌, sym, ◌∙◌, append-nil, append_assoc, arith, subst, Option, Some, IsSome, World, emitted_lines, written_lines, Stop, WriteFault, WebNames, Course, IsMergeCourse, merge_acts, merge_devices, PrintsActs, ActsKeepLimits, Act, writes, merges, prints, after_act, changed, with_printed, ending, Breaks, Devices, SinkModel, PerformsActs, RunEnds, completes, stops, printed_bytes, written_files, map, refl, LogItem, says}
 use Rattle.cweb_files.specs.surface.Writes.{WritesPrefix}
 use Rattle.cweb_lines.proofs.EmittedLinesAddUp.{emitted-append}
 use Rattle.cweb_lines.proofs.WrittenLinesAddUp.{text_of-append}
 use Rattle.cweb_tools.specs.laws.RunEffects.{EveryMergeLeavesOutput}
 use Rattle.cweb_files.proofs.Appending.{written_none, written_on}
-use Rattle.cweb_tools.proofs.AllDone.{printed_all}
-use Rattle.cweb_tools.proofs.Courses.{merge_only}
-use Rattle.cweb_tools.proofs.Doing.{counts_all}
+use Rattle.cweb_tools.proofs.Leaving.{printed_all}
+use Rattle.cweb_tools.proofs.TanglePromisesProved.{merge_only}
 use Rattle.cweb_tools.proofs.Endings.{ends_within}
 use Rattle.cweb_tools.proofs.Broken.{broken, reading_broken}
-use Rattle.cweb_tools.proofs.NoFiles.{merge-writes-none}
 use Rattle.cweb_tools.proofs.RunLaws.{fail_once, faults_show}
-use Rattle.cweb_tools.proofs.Stopping.{is_stopped}
+use Rattle.cweb_tools.specs.MergeActs as course
+
+only_said : (items : List LogItem) → written_files (map says items) ≡ []
+only_said [] = refl
+only_said (item ∷ items) = only_said items
+
+pub merge-writes-none : (way : Course) → written_files (merge_acts way) ≡ []
+merge-writes-none (course.merging first events) = grind (arith, only_said)
+merge-writes-none _ = refl
 
 -- There is only one course.
 pub one_course : (world : World) (args : Option WebNames) (one other : Course) → IsMergeCourse world args one
@@ -55,24 +61,6 @@ printed_by : {acts : List Act} {expected : ℕ} {old new : Devices} {status : �
 printed_by {acts} {old = old} {new = new} none (completes run answered) = grind (arith, printed_all, append-nil)
 printed_by none (stops (ending stop about) then run logs answered) = grind (arith, printed_until, not_zero)
 
-one_blame : (stop : Stop) → read_failures_of stop + bins_blame stop ≤ 1
-one_blame (ReadFault file) = omega arith
-one_blame OutNotOpened = omega arith
-one_blame WriteFault = omega arith
-one_blame _ = omega arith
-
--- Shelf and output don't both fail.
-one_fails : {acts : List Act} {expected : ℕ} {old new : Devices} {status : ℕ}
-    → RunEnds acts expected old new status
-    → new.shelf.failed + new.out.failed ≤ old.shelf.failed + old.out.failed + 1
-one_fails {acts} {old = old} {new = new} (completes run answered) = grind (arith, counts_all)
-one_fails {acts} {old = old} {new = new} (stops (ending stop about) then run logs answered) =
-    let is = is_stopped acts then run logs in omega (arith, is.shelf, is.bins, one_blame stop)
-
-at_most_once : (old new : ℕ) → RisesOnce old new → new ≤ old + 1
-at_most_once old new (inl same) = omega (arith, same)
-at_most_once old new (inr more) = omega (arith, more)
-
 pub leave_merge : EveryMergeLeavesOutput
 leave_merge world args before after status run course course_is =
     let same : IsSome before.shelf.blamed → run.course ≡ course = grind (arith, merge_only) in
@@ -82,9 +70,6 @@ leave_merge world args before after status run course course_is =
           (printed_by (merge-writes-none run.course) run.ends);
       limits = λ some beyond. ends_within run.ends
           (λ within. beyond (subst (λ (c : Course). ActsKeepLimits (merge_acts c)) (same some) within));
-      once = record {
-        one = one_fails run.ends;
-        log = at_most_once before.log.failed after.log.failed (fail_once run.ends).log;
-      };
+      once = fail_once run.ends;
       faults = faults_show run.ends;
     }

@@ -1,10 +1,11 @@
--- A merge that stops breaks the act of merging.
-use Rattle.cweb_tools.proofs.Common.{◌∙◌, ap, ◌∷◌, ◌≤◌, Line, length, files_named, begun_with, LINES, BYTES, after_act, ◌≡◌, ℕ, List, [], ◌++◌, refl, subst, Event, SoFar, StopsReading, emitted_lines, written_lines, StopsWriting, WritingStops, WritesPrefix, Stop, ReadFault, LineTooLong, TooMuchText, Memory, WriteFault, LogFault, Logs, stop_line, subject, SinkModel, Devices, merges, Breaks, FailsReading, ending, LogsEnding, appended, changed, failing, with_printed, arith}
+-- A merge that stops breaks the act of merging, and what is promised of its output after that.
+use Rattle.cweb_tools.proofs.Common.{◌∙◌, ap, ◌∷◌, ◌≤◌, Line, length, files_named, begun_with, LINES, BYTES, after_act, ◌≡◌, ℕ, List, [], ◌++◌, refl, subst, Event, SoFar, StopsReading, emitted_lines, written_lines, StopsWriting, WritingStops, WritesPrefix, Stop, ReadFault, LineTooLong, TooMuchText, Memory, WriteFault, LogFault, Logs, stop_line, subject, SinkModel, Devices, merges, Breaks, FailsReading, ending, LogsEnding, appended, changed, failing, with_printed, arith, ◌+◌, add-zero, Option, Some, None, IsSome, write_failures_of, FailedReads, SinkContents}
 use Rattle.cweb_lines.specs.Events.{took, emitted, fault, opening}
 use Rattle.cweb_tools.specs.Acts.{BreaksReading}
 use Rattle.cweb_tools.proofs.Broken.{shelf_after}
 use Rattle.cweb_tools.proofs.Limits.{CutAt, cut_at_limit}
 use Rattle.cweb_tools.proofs.ReadingStops.{left_by, fails_so, cut_first, read_by}
+use Rattle.std.specs.Option.{is_some, option_and}
 
 pub writing_ends : (stop : Stop) (about : List ℕ) {l l' : SinkModel} → WritingStops stop
     → Logs (stop_line stop about) l l' → LogsEnding (ending stop about) l l'
@@ -149,3 +150,27 @@ prints_none stop opened rest kind known none = record {
   is = none;
   breaks = cut_broke _ opened rest refl _ stop kind known [] (cut_first stop);
 }
+
+abbrev pub out_of : FailedReads → SinkModel → SinkModel
+out_of shelf out = record out { contents = option_and shelf.blamed out.contents }
+
+-- What is known stays known.
+pub stays_known : (stop : Stop) (about : List ℕ) (shelf : FailedReads)
+    → is_some (shelf_after stop about shelf).blamed ≡ is_some shelf.blamed
+stays_known (ReadFault file) about shelf = grind arith
+stays_known stop about shelf = refl
+
+-- The output has this text more, if the files are known.
+pub more_known : {A : Type 0} (old new : Option A) (now now' : Option SinkContents) (text : List ℕ)
+    → is_some new ≡ is_some old → (IsSome old → now' ≡ appended text now)
+    → option_and new now' ≡ appended text (option_and old now)
+more_known (Some x) (Some y) now now' text same is = is refl
+more_known None None now now' text same is = refl
+more_known (Some x) None now now' text same is = absurd (cc)
+more_known None (Some y) now now' text same is = absurd (cc)
+
+-- The output after a stop, from its failure count and its contents.
+pub out_is : (stop : Stop) (text : List ℕ) (old new : SinkModel) → new.failed ≡ old.failed + write_failures_of stop
+    → new.contents ≡ appended text old.contents → new ≡ out_after stop text old
+out_is WriteFault text old new more is = λ i. record { failed = more i; contents = is i }
+out_is stop text old new same is = λ i. record { failed = (same ∙ add-zero old.failed) i; contents = is i }

@@ -3,8 +3,7 @@ use Rattle.cweb_tools.proofs.Common.{◌≡◌, ℕ, List, [], ◌∷◌, length
 use Rattle.cweb_files.specs.Sinks.{FailsWithin}
 use Rattle.cweb_files.proofs.Appending.{fails_then, written_none, written_on, written_then}
 use Rattle.cweb_out.specs.surface.Printed.{EndsFile}
-use Rattle.cweb_tools.proofs.Marks.{all_back, mark_named}
-use Rattle.cweb_tools.proofs.ReadyExpanders.{stays_on}
+use Rattle.cweb_tools.proofs.ReadyExpanders.{all_back, mark_named, stays_on}
 
 -- The files of the remaining marks have names if those of all marks do.
 pub next_named : {files : List (List ℕ)} {first now : Expander} {printer : Printer} {old new : SinkModel}

@@ -5,8 +5,7 @@ use Rattle.cweb_out.specs.declared.outputs.fault.PlanFault.TheVariants.{Memory}
 use Rattle.cweb_tools.proofs.BufferedLog.{logs_by}
 use Rattle.cweb_tools.specs.Depend.{depend_plan_acts}
 use Rattle.cweb_tools.specs.declared.rule_targets.Targets.{Targets}
-use Rattle.cweb_tools.proofs.Doing.{ends_on}
-use Rattle.cweb_tools.proofs.DoingFiles.{ends_reported, does_plan, memory_halts}
+use Rattle.cweb_tools.proofs.Doing.{ends_on, ends_reported, does_plan, memory_halts}
 use Rattle.cweb_tools.proofs.Logging.{said_all}
 
 pub each_some : {A : Type 0} (o : Option A) (P : A → Type 0) → ((x : A) → o ≡ Some x → P x) → IfSome o P
@@ -19,10 +18,8 @@ of_some {A = A} o x P is holds = let whole : IfSome (Some x) P = subst (λ (o : 
 -- The item of a fault that is a refusal.
 refusal_item : (w : Stored) (main : List ℕ) (f : PlanFault) (r : Refusal)
     → refusal_in f ≡ Some r → plan_item w main f ≡ fault (refusal_message w main r)
-refusal_item w main (Cycle names) r is = grind arith
-refusal_item w main (SameName name) r is = grind arith
-refusal_item w main (BadName output) r is = grind arith
 refusal_item w main Memory r is = absurd (cc)
+refusal_item w main f r is = grind arith
 
 -- A refusal was logged.
 pub refusal_said : {A E : Type 0} (result : Result A E) (w : Stored) (main : List ℕ) (f : PlanFault) (r : Refusal)
@@ -71,9 +68,5 @@ pub unplanned_ends : {A E : Type 0} (r : Result A E) (w : Stored) (files : List 
     (status_by count (planning w files main)) old new 1
 unplanned_ends r w files main targets count Memory expected writes = λ shelf out.
     memory_halts plans _ refl (logs_by r _ _ _ writes) refl
-unplanned_ends r w files main targets count (Cycle names) expected writes =
-    refused_ends r w files main targets count (Cycle names) (refused_by (Cycle names) expected (λ is. cc)) writes
-unplanned_ends r w files main targets count (SameName name) expected writes =
-    refused_ends r w files main targets count (SameName name) (refused_by (SameName name) expected (λ is. cc)) writes
-unplanned_ends r w files main targets count (BadName output) expected writes =
-    refused_ends r w files main targets count (BadName output) (refused_by (BadName output) expected (λ is. cc)) writes
+unplanned_ends r w files main targets count f expected writes =
+    refused_ends r w files main targets count f (refused_by f expected (λ is. cc)) writes

@@ -4,7 +4,7 @@ use Rattle.cweb_tools.proofs.ScriptExamples.{tangle_log}
 use Rattle.std.specs.Fmt.{digits}
 use Rattle.std.specs.Str.{is_utf8, chars}
 use lib.Utf8.{encode}
-use Rattle.cweb_tools.specs.Course as course
+use Rattle.cweb_tools.specs.MergeActs as course
 use Rattle.cweb_tools.specs.Depend.{targets_by}
 use Rattle.cweb_tools.specs.declared.rule_targets.Targets.TheVariants.{All}
 

@@ -1,14 +1,27 @@
 -- The targets that `wdep` prints are the files that `ctangle` writes.
-use Rattle.cweb_tools.proofs.Common.{◌≡◌, ℕ, Bool, true, false, List, [], ◌∷◌, ◌++◌, map, refl, sym, ◌∙◌, ap, File, Event, LogItem, Shown, Act, opens, reads, Planning, planned, Web, tangling, written_files, outputs_acts, planned_acts, web_acts, tangle_files, dependencies, fault_count, arith}
+use Rattle.cweb_tools.proofs.Common.{◌≡◌, ℕ, Bool, true, false, List, [], ◌∷◌, ◌++◌, map, refl, sym, ◌∙◌, ap, File, Event, LogItem, Shown, Act, opens, reads, Planning, planned, Web, tangling, written_files, outputs_acts, planned_acts, web_acts, tangle_files, dependencies, fault_count, arith, Stored, Output, output_file, append-nil, says, printed_bytes, refused, depend_plan_acts}
 use Rattle.cweb_tools.specs.Depfile.{depfile, each_once}
-use Rattle.cweb_tools.specs.laws.LeftDevices.{TargetsAreWrittenFiles}
+use Rattle.cweb_tools.specs.laws.RunEffects.{TargetsAreWrittenFiles}
 use Rattle.cweb_tools.specs.declared.rule_targets.Targets.{Targets}
 use Rattle.cweb_tools.specs.declared.rule_targets.Targets.TheVariants.{All, Main}
-use Rattle.cweb_tools.specs.Depend.{among_outputs}
+use Rattle.cweb_tools.specs.Depend.{among_outputs, depend_acts}
 use Rattle.std.proofs.lemmas.List.{take-map}
-use Rattle.cweb_tools.proofs.NoFiles.{depend-prints}
 use Rattle.cweb_tools.proofs.Statuses.{same_status}
 use Rattle.cweb_tools.proofs.WebActs.{Any, when_on, said_on, starred_on, closing_on, warning_on}
+
+said_bytes : (items : List LogItem) (acts : List Act) → printed_bytes (map says items ++ acts) ≡ printed_bytes acts
+said_bytes [] acts = refl
+said_bytes (item ∷ items) acts = said_bytes items acts
+
+plan_bytes : (targets : Targets) (files : List (List ℕ)) (plan : Planning)
+    → printed_bytes (depend_plan_acts targets files plan) ≡ dependencies targets files plan
+plan_bytes targets files (refused text) = refl
+plan_bytes targets files (planned outputs true) = append-nil (dependencies targets files (planned outputs true))
+plan_bytes targets files (planned outputs false) = append-nil (dependencies targets files (planned outputs false))
+
+pub depend-prints : (targets : Targets) (files : List (List ℕ)) (events : List Event) (web : Web)
+    → printed_bytes (depend_acts targets (tangling files events web)) ≡ dependencies targets files web.plan
+depend-prints targets files events web = said_bytes web.faults _ ∙ plan_bytes targets files web.plan
 
 -- The acts write these files.
 abbrev Writes : List File → List Act → Type 0
@@ -54,3 +67,16 @@ targets_are_written = record {
       (sym (tangle_written shown files events web outputs missing is)));
   status = λ shown targets course. same_status targets shown course;
 }
+
+-- The targets are the names of the outputs.
+target_names : (web : Stored) (files : List (List ℕ)) (outputs : List Output)
+    → map (λ (file : File). file.name) (map (output_file web files) outputs)
+    ≡ map (λ (output : Output). output.name) outputs
+target_names web files [] = refl
+target_names web files (output ∷ outputs) = grind (arith, target_names web files outputs)
+
+pub target_names_among : (web : Stored) (files : List (List ℕ)) (targets : Targets) (outputs : List Output)
+    → map (λ (file : File). file.name) (among_outputs targets (map (output_file web files) outputs))
+    ≡ map (λ (output : Output). output.name) (among_outputs targets outputs)
+target_names_among web files All outputs = target_names web files outputs
+target_names_among web files Main outputs = grind (arith, take-map, target_names)

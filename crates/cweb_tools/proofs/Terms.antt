@@ -1,7 +1,7 @@
 -- Definitions that only proofs cite.
 use Rattle.std.specs.Prelude.{◌≡◌, ◌++◌, ℕ, List, Option}
 use Rattle.cweb_tools.specs.CommandLine.{web_names_by}
-use Rattle.cweb_tools.specs.Course.{Course, world_of}
+use Rattle.cweb_tools.specs.MergeActs.{Course, world_of}
 use Rattle.cweb_tools.specs.inner.Does.{merge_course}
 use Rattle.cweb_files.specs.Sinks.{SinkModel, written}
 use Rattle.cweb_store.specs.Parts.{Token}
@@ -9,9 +9,8 @@ use Rattle.cweb_out.specs.surface.Printed.{left_after_tokens, left_in_printer, s
 use Rattle.cweb_out.specs.Printing.{setting, print}
 use Rattle.cweb_out.specs.declared.expander.Expander.{Expander}
 use Rattle.cweb_out.specs.declared.printer.Printer.{Printer}
-use Rattle.cweb_tools.specs.inner.Expanders.{StaysReady, left_in}
+use Rattle.cweb_tools.specs.inner.Tangle.{StaysReady, left_in, status_by, fault_count, LaterActs}
 use Rattle.cweb_tools.specs.Script.{web_acts}
-use Rattle.cweb_tools.specs.inner.Tangle.{status_by, fault_count, LaterActs}
 use Rattle.cweb_tools.specs.declared.options.Shown.{Shown}
 use Rattle.cweb_tools.specs.Script as script
 

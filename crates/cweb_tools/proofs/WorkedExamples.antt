@@ -1,7 +1,7 @@
 -- Worked examples of command lines and merges.
 use Rattle.cweb_tools.proofs.Common.{◌≡◌, ℕ, List, [], ◌∷◌, Option, Some, None, refl, ap, cond, codes, bytes_eq, map, Place, NotThere, Unequal, Usage, WebNotOpened, ChangeNotOpened, LineTooLong, WriteFault, Memory, World, Event, MergeStateModel, run_steps, started, merge-run_steps, line, source_item, stop_line, subject, web_names_by, Course, merging, course_of, merge_acts, logged_items, printed_bytes, acts_status, flat_map}
 use Rattle.std.specs.Fmt.{digits}
-use Rattle.cweb_tools.specs.Course.{unread, change_not_there}
+use Rattle.cweb_tools.specs.MergeActs.{unread, change_not_there}
 
 -- A lone `-` as the second word means no change file.
 dash_second : (web : List ℕ) → web_names_by (web ∷ codes "-" ∷ []) ≡ web_names_by (web ∷ [])

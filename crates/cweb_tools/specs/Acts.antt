@@ -1,5 +1,5 @@
 -- The acts of a run, what they leave in its devices, and the promise that a run does the acts of its course.
-use Rattle.std.specs.Prelude.{◌≡◌, ◌<◌, ◌⊎◌, ℕ, ◌+◌, length, List, [], ◌∷◌, ◌++◌, Option, Some, None, IsSome}
+use Rattle.std.specs.Prelude.{◌≡◌, ◌<◌, ◌⊎◌, ℕ, ◌+◌, length, List, [], ◌∷◌, ◌++◌, Option, Some, None, IsSome, IsSomeAnd}
 use Rattle.std.specs.Prelude.{codes, if◌then◌else◌, option_map}
 use Rattle.std.specs.List.{list_any}
 use Rattle.cweb_files.specs.declared.bins.BinFault.TheVariants as bin
@@ -7,8 +7,7 @@ use Rattle.cweb_lines.specs.Events.{Event, IsWithinLimits, emitted_lines, taken_
 use Rattle.cweb_lines.specs.declared.stop.Stop.{Stop}
 use Rattle.cweb_lines.specs.declared.stop.Stop.TheVariants.{ReadFault, LineTooLong, TooMuchText, Memory, OutNotOpened}
 use Rattle.cweb_lines.specs.declared.stop.Stop.TheVariants.{WriteFault, LogFault}
-use Rattle.cweb_tools.specs.Items.{LogItem, is_fault, line}
-use Rattle.cweb_tools.specs.Log.{file_name_at, stop_line}
+use Rattle.cweb_tools.specs.Items.{LogItem, is_fault, line, file_name_at, stop_line}
 use Rattle.cweb_tools.specs.DeviceModels.{Devices, Logs, FailedReads}
 use Rattle.cweb_files.specs.Sinks.{FailsWithin, SinkContents, SinkModel, changed, committed, failing, with_draft}
 use Rattle.cweb_files.specs.Sinks.{with_printed, without_file, written}
@@ -118,17 +117,12 @@ Breaks (writes name text) (ending WriteFault about) old new = (about ≡ name)
 Breaks (prints text) (ending WriteFault about) old new = FailsOutput text about old new
 Breaks _ _ old new = ⊥
 
--- A stop within an act, if there is one.
-abbrev pub StopsAt : Act → Option Ending → Devices → Devices → Type 0
-StopsAt act None old new = ⊥
-StopsAt act (Some why) old new = Breaks act why old new
-
 -- The acts are done in order: all of them, or up to one within which something stops the run.
 abbrev pub PerformsActs : List Act → Option Ending → Devices → Devices → Type 0
 PerformsActs [] None old new = new ≡ old
 PerformsActs [] (Some why) old new = ⊥
 PerformsActs (act ∷ acts) why old new = (ActKeepsLimits act × PerformsActs acts why (after_act act old) new)
-    ⊎ StopsAt act why old new
+    ⊎ IsSomeAnd why (λ why. Breaks act why old new)
 
 -- The log after a stop has its line, or failed within it. A log that failed before gets no line.
 abbrev pub LogsEnding : Ending → SinkModel → SinkModel → Type 0

@@ -44,26 +44,25 @@ extended word extension = if has_extension word then word else word ++ extension
 abbrev pub second_try : List ℕ → Option (List ℕ)
 second_try word = if has_extension word then None else Some (word ++ codes ".web")
 
--- The names from the words for the web and the change file. `None` if the web's word can't name a file.
-abbrev pub web_names_for : List ℕ → Option (List ℕ) → Option WebNames
-web_names_for web change =
-    if can_name_file web then Some (record {
+-- The word for the change file. A lone `-` means none.
+abbrev pub change_word : Option (List ℕ) → Option (List ℕ)
+change_word None = None
+change_word (Some word) = if is_dash word then None else Some word
+
+-- The names from the words for the web and the change file. `None` if one of them can't name a file.
+abbrev pub merge_by : List ℕ → Option (List ℕ) → Option WebNames
+merge_by web change =
+    if can_name_file web && option_map_or can_name_file (change_word change) true then Some (record {
       web = extended web (codes ".w");
       second = second_try web;
-      change = option_map (λ word. extended word (codes ".ch")) change;
+      change = option_map (λ word. extended word (codes ".ch")) (change_word change);
     })
     else None
 
--- The names from two words. A lone `-` as the second word means no change file.
-abbrev pub web_names_with : List ℕ → List ℕ → Option WebNames
-web_names_with web change =
-    if is_dash change then web_names_for web None
-    else (if can_name_file change then web_names_for web (Some change) else None)
-
 -- The names from a list of words: one or two that can be read.
 abbrev pub web_names_by : List (List ℕ) → Option WebNames
-web_names_by (web ∷ []) = web_names_for web None
-web_names_by (web ∷ change ∷ []) = web_names_with web change
+web_names_by (web ∷ []) = merge_by web None
+web_names_by (web ∷ change ∷ []) = merge_by web (Some change)
 web_names_by _ = None
 
 -- Without options the log has everything but statistics.
@@ -107,10 +106,6 @@ pub record TangleNames : Type 0 where
   pub merge : WebNames
   pub main : List ℕ
 
--- The merge's names, from the words for the web and the change file.
-abbrev pub merge_by : List ℕ → Option (List ℕ) → Option WebNames
-merge_by web change = option_map_or (web_names_with web) change (web_names_for web None)
-
 -- The main output's name: its own word, or one made from the web's. `None` if its word can't name a file.
 abbrev pub main_by : List ℕ → Option (List ℕ) → Option (List ℕ)
 main_by web None = Some (stem web ++ codes ".c")
@@ -134,8 +129,11 @@ pub record OptionsModel : Type 0 where
   pub shown : Shown
   pub names : TangleNames
 
+abbrev pub with_shown : Shown → TangleNames → OptionsModel
+with_shown shown names = record { shown = shown; names = names }
+
 -- The command line of these words, or `None` if they have another form.
 abbrev pub options_by : List (List ℕ) → Option OptionsModel
 options_by words =
-    option_and_then (λ (shown : Shown). option_map (λ (names : TangleNames). record { shown = shown; names = names })
-    (names_by (other_words words))) (words_shown words shown_by_default)
+    option_and_then (λ (shown : Shown). option_map (with_shown shown) (names_by (other_words words)))
+    (words_shown words shown_by_default)

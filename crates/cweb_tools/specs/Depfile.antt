@@ -97,12 +97,8 @@ abbrev pub empty_rule : List ℕ → List ℕ → List ℕ
 empty_rule lead name =
     (if has_equals name then escaped Target lead ++ 32 ∷ [] else []) ++ (escaped Target name ++ codes ":\n")
 
--- The rule that makes the outputs from the inputs.
-abbrev pub rule_text : List (List ℕ) → List (List ℕ) → List ℕ
-rule_text outputs inputs =
-    (fold add_word (record { text = []; column = 0 }) (target_words outputs ++ prerequisite_words inputs)).text
-
--- That rule, and an empty rule for each input but the first, which is the web.
+-- The rule that makes the outputs from the inputs, and an empty rule for each input but the first, which is the web.
 abbrev pub depfile : List (List ℕ) → List (List ℕ) → List ℕ
 depfile outputs inputs =
-    rule_text outputs (led inputs) ++ (codes "\n" ++ flat_map (empty_rule (leader inputs)) (drop 1 inputs))
+    (fold add_word (record { text = []; column = 0 }) (target_words outputs ++ prerequisite_words (led inputs))).text
+    ++ (codes "\n" ++ flat_map (empty_rule (leader inputs)) (drop 1 inputs))

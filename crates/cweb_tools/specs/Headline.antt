@@ -5,8 +5,7 @@ use Rattle.std.specs.List.{flat_map}
 use Rattle.cweb_files.specs.Files.{File, put_file}
 use Rattle.cweb_lines.specs.Events.{emitted_lines, written_lines}
 use Rattle.cweb_lines.specs.declared.stop.Stop.TheVariants.{Memory}
-use Rattle.cweb_tools.specs.Items.{line}
-use Rattle.cweb_tools.specs.Log.{stop_line}
+use Rattle.cweb_tools.specs.Items.{line, stop_line}
 use Rattle.cweb_tools.specs.DeviceModels.{Devices}
 use Rattle.cweb_files.specs.Sinks.{SinkContents, SinkModel, appended, written}
 use Rattle.cweb_tools.specs.Acts.{Act, says, merges, prints, writes, ActKeepsLimits, acts_status, logged_items}

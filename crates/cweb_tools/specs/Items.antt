@@ -1,19 +1,20 @@
--- The log of `ctangle`: its items, those for the faults of a web, and the line of each.
+-- The log: the messages of faults and stops, its items, and the line of each.
 use Rattle.std.specs.Prelude.{ℕ, Bool, true, false, List, ◌++◌, ◌==◌, codes, decimal, if◌then◌else◌, [], map}
 use Rattle.std.specs.Prelude.{slice_index_or}
 use Rattle.std.specs.List.{flat_map}
 use Rattle.cweb_lines.specs.declared.fault.SourceFault.{SourceFault}
 use Rattle.cweb_lines.specs.declared.fault.SourceKind.{SourceKind}
-use Rattle.cweb_lines.specs.declared.fault.SourceKind.TheVariants.{Unequal}
+use Rattle.cweb_lines.specs.declared.fault.SourceKind.TheVariants.{Unequal, NoName, TooDeep, NotThere, MissingX}
+use Rattle.cweb_lines.specs.declared.fault.SourceKind.TheVariants.{NoOldLines, EndedBeforeY, WebEnded, WantsY, WantsZ}
+use Rattle.cweb_lines.specs.declared.fault.SourceKind.TheVariants.{EndedBeforeZ, NoMatch}
 use Rattle.cweb_lines.specs.declared.stop.Stop.{Stop}
-use Rattle.cweb_tools.specs.Log.{kind_message, located_line, file_name_at, stop_line}
 use Rattle.cweb_store.specs.Names.{Occurrence}
+use Rattle.cweb_store.specs.declared.name.NameId.{NameId}
+use Rattle.cweb_store.specs.declared.name.NameKind.TheVariants.{Ambiguous, NeverFull, PrefixOfAnother, NotPresent}
 use Rattle.cweb_store.specs.Calls.{Stored}
 use Rattle.cweb_store.specs.Faults as store
-use Rattle.cweb_store.specs.declared.name.NameId.{NameId}
 use Rattle.cweb_store.specs.declared.name.NameFault.{NameFault}
 use Rattle.cweb_store.specs.declared.name.NameKind.{NameKind}
-use Rattle.cweb_store.specs.declared.name.NameKind.TheVariants.{Ambiguous, NeverFull, PrefixOfAnother, NotPresent}
 use Rattle.cweb_rules.specs.declared.fault.ScanFault.{ScanFault}
 use Rattle.cweb_rules.specs.declared.fault.ScanKind.{ScanKind}
 use Rattle.cweb_rules.specs.declared.fault.ScanKind.TheVariants.{DoubleAtInLimbo, ImproperHexNumber, ReplacementTooLong}
@@ -23,6 +24,48 @@ use Rattle.cweb_rules.specs.declared.fault.ScanKind.TheVariants.{ControlTextDidN
 use Rattle.cweb_rules.specs.declared.fault.ScanKind.TheVariants.{MissingAt, DefsInMacro, DefinitionDropped}
 use Rattle.cweb_out.specs.Outputs as outputs
 use Rattle.cweb_out.specs.Outputs.{Refusal, bad_name, same_name, cycle, output_name}
+use Rattle.cweb_lines.specs.declared.stop.Stop.TheVariants.{ChangeNotOpened, WebNotOpened, OutNotOpened, LineTooLong}
+use Rattle.cweb_lines.specs.declared.stop.Stop.TheVariants.{TooMuchText, WriteFault, ReadFault, LogFault, Memory, Usage}
+
+-- The name of a file by its index.
+abbrev pub file_name_at : List (List ℕ) → ℕ → List ℕ
+file_name_at names file = slice_index_or names file []
+
+-- The message of a fault of a web or change file.
+abbrev pub kind_message : SourceKind → List ℕ
+kind_message NoName = codes "Include file name not given"
+kind_message TooDeep = codes "Too many nested includes"
+kind_message NotThere = codes "Cannot open include file"
+kind_message MissingX = codes "Missing @x in change file"
+kind_message NoOldLines = codes "No old lines after @x"
+kind_message EndedBeforeY = codes "Change file ended before @y"
+kind_message WebEnded = codes "Web ended during a change"
+kind_message WantsY = codes "Where is @y?"
+kind_message Unequal = codes "Lines that failed to match"
+kind_message WantsZ = codes "Where is @z?"
+kind_message EndedBeforeZ = codes "Change file ended before @z"
+kind_message NoMatch = codes "Change entry did not match"
+
+-- FILE:LINE: ! TEXT
+abbrev pub located_line : List ℕ → List ℕ → List ℕ → List ℕ
+located_line file line text = file ++ (codes ":" ++ (line ++ (codes ": ! " ++ text)))
+
+-- ! MESSAGE, followed by a name if the message is about one.
+abbrev pub message_line : List ℕ → List ℕ → List ℕ
+message_line text name = codes "! " ++ (text ++ (name ++ codes "\n"))
+
+-- The line of a stop that is about this name. A log that failed gets no line.
+abbrev pub stop_line : Stop → List ℕ → List ℕ
+stop_line Usage name = message_line (codes "Usage: ") name
+stop_line WebNotOpened name = message_line (codes "Cannot open web file ") name
+stop_line ChangeNotOpened name = message_line (codes "Cannot open change file ") name
+stop_line (ReadFault file) name = message_line (codes "Read fault on ") name
+stop_line (LineTooLong file) name = message_line (codes "Line too long in ") name
+stop_line TooMuchText name = message_line (codes "Too much text") []
+stop_line Memory name = message_line (codes "Out of memory") []
+stop_line OutNotOpened name = message_line (codes "Cannot open output file ") name
+stop_line WriteFault name = message_line (codes "Write fault on ") name
+stop_line LogFault name = []
 
 -- An item of the log.
 pub data LogItem : Type 0 where

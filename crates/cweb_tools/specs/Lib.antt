@@ -1,9 +1,7 @@
-pub mod Log
 pub mod Items
 pub mod CommandLine
 pub mod DeviceModels
 pub mod Acts
-pub mod Course
 pub mod Depend
 pub mod Depfile
 pub mod Headline

@@ -3,17 +3,13 @@ use Rattle.std.specs.Prelude.{◌≡◌, Bool, true, false, nat_le, not, List, c
 use Rattle.std.specs.List.{list_all}
 use Rattle.cweb_store.specs.Parts.{Token, Word, Number, Literal, Punct, Blank, Newline, Head, Tail}
 use Rattle.cweb_scan.specs.Effects.{Reading}
-use Rattle.cweb_scan.specs.DirectiveTokens.{is_punct}
+use Rattle.cweb_scan.specs.State.{is_punct}
 use Rattle.cweb_scan.specs.Lexemes.{lex, ReadsAlone, InPlainC, HasReadTokens, doubled, significant, is_hash}
 use Rattle.cweb_out.specs.Printing.{Setting, print}
 
 -- All bytes are below 128.
 abbrev pub is_ascii : List ℕ → Bool
 is_ascii bytes = list_all (λ b. not (nat_le 128 b)) bytes
-
--- The token is `##`.
-abbrev pub is_double_hash : Token → Bool
-is_double_hash token = is_punct (codes "##") (Some token)
 
 -- Layout, section comments, ASCII words, numbers, literals and punctuators that read alone, except `#` and `##`.
 abbrev pub IsPlain : Token → Type 0
@@ -24,7 +20,7 @@ IsPlain (Tail section) = Unit {0}
 IsPlain (Word bytes) = (is_ascii bytes ≡ true) × ReadsAlone (Word bytes)
 IsPlain (Number bytes) = ReadsAlone (Number bytes)
 IsPlain (Literal bytes) = ReadsAlone (Literal bytes)
-IsPlain (Punct bytes) = (is_hash (Punct bytes) ≡ false) × (is_double_hash (Punct bytes) ≡ false)
+IsPlain (Punct bytes) = (is_hash (Punct bytes) ≡ false) × (is_punct (codes "##") (Some (Punct bytes)) ≡ false)
     × ReadsAlone (Punct bytes)
 IsPlain token = ⊥
 

@@ -15,8 +15,8 @@ use Rattle.cweb_out.specs.Printing.{setting, file}
 use Rattle.cweb_tools.specs.Items.{source_item, name_items, refusal_message, scan_item}
 use Rattle.cweb_tools.specs.CommandLine.{OptionsModel, shown_by_default}
 use Rattle.cweb_tools.specs.declared.options.Shown.{Shown}
-use Rattle.cweb_tools.specs.Course as course
-use Rattle.cweb_tools.specs.Course.{Course, IsMergeCourse, change_name}
+use Rattle.cweb_tools.specs.MergeActs as course
+use Rattle.cweb_tools.specs.MergeActs.{Course, IsMergeCourse, change_name}
 use Rattle.cweb_tools.specs.Script.{Numbers, Planning, TangleCourse, Web, unread, not_there, change_not_there, tangling}
 use Rattle.cweb_tools.specs.Script.{refused, planned, script}
 use Rattle.cweb_tools.specs.DeviceModels.{Devices}

@@ -1,6 +1,5 @@
 -- Definitions that only the functions of this crate cite.
 pub mod LogText
-pub mod Expanders
 pub mod Variables
 pub mod Does
 pub mod Tangle

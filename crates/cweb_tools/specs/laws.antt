@@ -1,3 +1,2 @@
 -- Definitions that only laws cite.
 pub mod RunEffects
-pub mod LeftDevices

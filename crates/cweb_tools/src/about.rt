@@ -1,11 +1,11 @@
 // What `wdep` says of itself.
 ghost use Rattle.std.specs.Prelude.{◌≡◌, ◌<◌, ◌+◌, codes, map};
 ghost use Rattle.std.specs.Option.{option_copied};
-ghost use Rattle.cweb_tools.specs.Log.{stop_line};
+ghost use Rattle.cweb_tools.specs.Items.{stop_line};
 ghost use Rattle.cweb_tools.specs.DeviceModels.{Logs};
 ghost use Rattle.cweb_tools.specs.inner.Does.{SinkCountsFit};
 ghost use Rattle.cweb_files.specs.Sinks.{FailsWithin, written};
-ghost use Rattle.cweb_tools.specs.inner.RuleModel.{about_wdep, about_word};
+ghost use Rattle.cweb_tools.specs.inner.RuleModel.{about_wdep};
 
 use crate::writing::log_stop;
 use cweb_lines::{Sink, Stop, write_all};
@@ -24,21 +24,9 @@ pub fn about_wdep(words: &[&str]) -> Option<&'static str>
     ensures { option_copied result ≡ about_wdep (map (λ word. word.now) words.now) }
 {
     match words {
-        [word] => about_word(word),
+        [word] if *word == "--version" => Some(VERSION),
+        [word] if *word == "--help" => Some(HELP),
         _ => None,
-    }
-}
-
-/// The text that one argument asks for.
-fn about_word(word: &str) -> Option<&'static str>
-    ensures { option_copied result ≡ about_word word.now }
-{
-    if word == "--version" {
-        Some(VERSION)
-    } else if word == "--help" {
-        Some(HELP)
-    } else {
-        None
     }
 }
 

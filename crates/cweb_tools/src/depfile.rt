@@ -14,7 +14,6 @@ use crate::rule_targets::Targets;
 use cweb_files::FileId;
 use cweb_lines::FileNames;
 use cweb_out::Plan;
-use cweb_store::Key;
 use std::alloc::{AllocError, Global};
 use std::collections::BTreeSet;
 
@@ -43,8 +42,7 @@ pub(crate) fn depfile(
     rule.finish(inputs.as_slice())
 }
 
-/// The names of the opened files, each once. The set is sorted, so no choice of names makes this slow. Most comparisons
-/// end at the two numbers of a key.
+/// The names of the opened files, each once. The set is sorted, so no choice of names makes this slow.
 fn each_once<'a>(alloc: Global, names: &'a FileNames) -> Result<Vec<&'a str>, AllocError>
     ensures { IfOk result (λ list. keys_of list.items ≡ each_once (opened_file_names names.now)) }
 {
@@ -52,8 +50,7 @@ fn each_once<'a>(alloc: Global, names: &'a FileNames) -> Result<Vec<&'a str>, Al
     let mut known = BTreeSet::new(alloc);
     'names: for id in 0..names.count() {
         let name = names.get(FileId(id));
-        let key = Key::of(name.as_bytes());
-        if known.insert((key.first, key.last, name))? {
+        if known.insert(name)? {
             inputs.push(name)?;
         }
     }

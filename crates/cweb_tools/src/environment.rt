@@ -34,39 +34,33 @@ pub struct ProgramEnvironment<'a, R: Env> {
     pub runtime: &'a R,
 }
 
-/// What is read from the environment.
-#[derive(Clone, Copy)]
-enum Query<'a> {
-    Argument(usize),
-    Variable(&'a str),
-}
-
 impl<R: Env> Environment for ProgramEnvironment<'_, R> {
     ghost known = { λ _. None };
 
     /// The system's argument 0 is the program's name, which may be any bytes.
     fn argument(&self, alloc: Global, index: usize) -> Result<Option<Vec<u8>>, AllocError> {
         match index.checked_add(1) {
-            Some(number) => read(alloc, self.runtime, Query::Argument(number)),
+            Some(number) => read(alloc, |buffer| self.runtime.arg(number, buffer)),
             None => Ok(None),
         }
     }
 
     fn variable(&self, alloc: Global, name: &str) -> Result<Option<Vec<u8>>, AllocError> {
-        read(alloc, self.runtime, Query::Variable(name))
+        read(alloc, |buffer| self.runtime.var(name, buffer))
     }
 }
 
 /// Reads a value into a buffer that is large enough.
-fn read<R: Env>(
+fn read<F: Fn(&mut [u8]) -> Result<usize, FillError>>(
     alloc: Global,
-    runtime: &R,
-    query: Query<'_>,
-) -> Result<Option<Vec<u8>>, AllocError> {
+    fill: F,
+) -> Result<Option<Vec<u8>>, AllocError>
+    requires { F.IsAlwaysCallable fill }
+{
     let mut size = SIZE;
     for _ in 0..TURNS {
         let mut buffer = vec![in alloc; 0u8; size]?;
-        match fill(runtime, query, buffer.as_mut_slice()) {
+        match fill(buffer.as_mut_slice()) {
             Ok(len) => {
                 buffer.truncate(len);
                 return Ok(Some(buffer));
@@ -76,11 +70,4 @@ fn read<R: Env>(
         }
     }
     Err(AllocError)
-}
-
-fn fill<R: Env>(runtime: &R, query: Query<'_>, buffer: &mut [u8]) -> Result<usize, FillError> {
-    match query {
-        Query::Argument(number) => runtime.arg(number, buffer),
-        Query::Variable(name) => runtime.var(name, buffer),
-    }
 }

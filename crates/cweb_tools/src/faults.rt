@@ -1,8 +1,7 @@
 // The lines of the faults of a web: of its files, its text, its names and its outputs. No function here allocates.
 ghost use Rattle.std.specs.Prelude.{◌≡◌, ◌<◌, ◌∷◌, [], length};
 ghost use Rattle.cweb_lines.specs.surface.OpenedFileNames.{opened_file_names};
-ghost use Rattle.cweb_tools.specs.Items.{line, name_item, scan_item, scan_message, source_item};
-ghost use Rattle.cweb_tools.specs.Log.{kind_message};
+ghost use Rattle.cweb_tools.specs.Items.{line, name_item, scan_item, scan_message, source_item, kind_message};
 ghost use Rattle.cweb_tools.specs.inner.LogText.{items_of, joined_parts, plan_item};
 
 use crate::chunks::{Chunk, counted_chunk, fault_chunk, located_chunk};

@@ -7,21 +7,18 @@ ghost use Rattle.cweb_system.specs.Steps.{AreDecent, OnDisk};
 ghost use Rattle.cweb_tools.specs.CommandLine.{options_by, web_names_by};
 ghost use Rattle.cweb_tools.specs.DeviceModels.{contents_of, failed_reads};
 ghost use Rattle.cweb_tools.specs.inner.Does.{SinkCountsFit};
-ghost use Rattle.cweb_tools.specs.Course.{world_of};
+ghost use Rattle.cweb_tools.specs.MergeActs.{world_of, MergePromises, MergesFreely};
 ghost use Rattle.cweb_tools.specs.Depend.{DependPromises, DependsFreely, targets_by};
 ghost use Rattle.cweb_tools.specs.Headline.{RanFreely, written_files};
 ghost use Rattle.cweb_tools.specs.InFolder.{AreIn, KeepsInFolder, devices_before};
-ghost use Rattle.cweb_tools.specs.MergeActs.{MergePromises, MergesFreely};
 ghost use Rattle.cweb_tools.specs.Script.{TangleCourse, script};
 ghost use Rattle.cweb_tools.specs.Tangle.{IsTangleCourse, TanglePromises, shown_by};
 
-use crate::scanning::scan_web;
 use crate::tangle::{begin_tangle, tangle_web};
-use crate::wdep::run_wdep;
 use crate::web::Web;
-use crate::wmerge::run_wmerge;
+use crate::{run_wdep, run_wmerge};
 use cweb_lines::Sink;
-use cweb_system::{FileSet, FileSystem, FolderBins, FolderShelf};
+use cweb_system::{FileSystem, FolderBins, FolderShelf};
 use std::alloc::Global;
 
 /// Runs `ctangle` in a folder: reads the web from it, and writes the outputs to it. Returns the status, and the bins that
@@ -58,23 +55,11 @@ pub fn tangle_in_folder<F: FileSystem + Drop, L: Sink>(
         (devices_before F.FileSystem fs (L.model log.old))
         (bins_model F.FileSystem result.1) (L.model log.new) result.0 }
 {
-    let options = match begin_tangle(alloc, words, log) {
-        Ok(options) => options,
-        Err(status) => return (status, FolderBins::new(alloc, fs, FileSet::new(alloc))),
-    };
-    let mut shelf = FolderShelf::noting(fs, FileSet::new(alloc));
-    match scan_web(alloc, &options, inputs, &mut shelf, log) {
-        Ok(read) => {
-            let web = Web::of(&read);
+    let mut shelf = FolderShelf::new(alloc, fs);
+    match begin_tangle(alloc, words, inputs, &mut shelf, log) {
+        Ok(begun) => {
             let mut bins = shelf.into_bins(alloc);
-            let status = tangle_web(
-                alloc,
-                options.shown(),
-                options.main.as_str(),
-                web,
-                &mut bins,
-                log,
-            );
+            let status = tangle_web(alloc, &begun.0, Web::of(&begun.1), &mut bins, log);
             (status, bins)
         }
         Err(status) => (status, shelf.into_bins(alloc)),
@@ -104,7 +89,7 @@ pub fn merge_in_folder<F: FileSystem + Drop, W: Sink, L: Sink>(
         })
         (W.model out.new) (L.model log.new) result }
 {
-    let mut shelf = FolderShelf::new(fs);
+    let mut shelf = FolderShelf::new(alloc, fs);
     run_wmerge(alloc, words, inputs, &mut shelf, out, log)
 }
 
@@ -132,6 +117,6 @@ pub fn depend_in_folder<F: FileSystem + Drop, W: Sink, L: Sink>(
         })
         (W.model out.new) (L.model log.new) result }
 {
-    let mut shelf = FolderShelf::new(fs);
+    let mut shelf = FolderShelf::new(alloc, fs);
     run_wdep(alloc, words, inputs, &mut shelf, out, log)
 }

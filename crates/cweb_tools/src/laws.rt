@@ -1,24 +1,14 @@
 //! Laws of whole runs, for all device failures and failed allocations, of blanks between tokens, and of targets.
-ghost use Rattle.std.specs.Prelude.{◌≡◌, ℕ, List, None};
+ghost use Rattle.std.specs.Prelude.{◌≡◌, ℕ, List};
 ghost use Rattle.cweb_tools.specs.DeviceModels.{Devices};
 ghost use Rattle.cweb_lines.specs.Events.{Event};
 ghost use Rattle.cweb_tools.specs.declared.options.Shown.{Shown};
 ghost use Rattle.cweb_tools.specs.Acts.{RunEnds};
 ghost use Rattle.cweb_tools.specs.Headline.{files_in};
-ghost use Rattle.cweb_tools.specs.laws.RunEffects.{LeavesFiles, tangle_files};
-ghost use Rattle.cweb_tools.specs.laws.RunEffects.{EveryRunLeavesDevices, EveryMergeLeavesOutput};
-ghost use Rattle.cweb_tools.specs.laws.LeftDevices.{EveryRunLeavesBins, EveryRunLeavesTheShelf};
-ghost use Rattle.cweb_tools.specs.laws.LeftDevices.{draft_in, TargetsAreWrittenFiles};
-ghost use Rattle.cweb_tools.specs.Script.{TangleCourse, Web, refused, script, tangling};
+ghost use Rattle.cweb_tools.specs.laws.RunEffects.{EveryMergeLeavesOutput, EveryRunLeavesDevices};
+ghost use Rattle.cweb_tools.specs.laws.RunEffects.{EveryRunLeavesTheShelf, TargetsAreWrittenFiles};
+ghost use Rattle.cweb_tools.specs.Script.{Web, refused, script, tangling};
 ghost use Rattle.cweb_tools.specs.Spacing.{Spacing};
-
-/// The committed files are the first of the expected ones, in order, each whole. All other files are unchanged.
-pub fn committed_files_are_a_prefix()
-    ensures { (shown : Shown) (course : TangleCourse) (expected : ℕ) (old new : Devices)
-        (status : ℕ) →
-        RunEnds (script shown course) expected old new status →
-        LeavesFiles (tangle_files shown course) old.out new.out }
-{}
 
 /// A refused plan changes no file.
 pub fn refused_plans_write_no_file()
@@ -29,25 +19,12 @@ pub fn refused_plans_write_no_file()
         files_in new.out ≡ files_in old.out }
 {}
 
-/// If there was no draft before a run, there is none after it.
-pub fn no_draft_remains()
-    ensures { (shown : Shown) (course : TangleCourse) (expected : ℕ) (old new : Devices)
-        (status : ℕ) →
-        draft_in old.out ≡ None →
-        RunEnds (script shown course) expected old new status → draft_in new.out ≡ None }
-{}
-
 /// A run of `ctangle` does all its acts, or logs what stopped it and returns 1. The bins have the first expected files,
-/// each whole. If it committed a file, it has read the whole web within the limits. A web that breaks the limits never
-/// gives status 0. No device fails twice, and a failed device makes the status 1.
+/// each whole, all other files unchanged, and no draft. They change only if all was read within the limits. A web that
+/// breaks the limits never gives status 0. No device fails twice, and a failed device or a file that the bins refuse
+/// makes the status 1.
 pub fn every_run_leaves_devices()
     ensures { EveryRunLeavesDevices }
-{}
-
-/// The bins have the first expected files, each whole, and no draft, whatever stopped the run. They change only
-/// if all was read within the limits. A file that the bins refuse makes the status 1.
-pub fn every_run_leaves_bins()
-    ensures { EveryRunLeavesBins }
 {}
 
 /// After a run of `ctangle`, `wmerge` or `wdep`, the shelf blames the file whose read failed, and no other. The

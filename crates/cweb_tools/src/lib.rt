@@ -42,7 +42,7 @@ pub mod laws;
 
 pub use about::{about_wdep, write_about};
 pub use cweb_system::{
-    FileSet, FileSystem, FolderBins, FolderShelf, LockableFile, StdFolder, StdSink, read_once,
+    FileSystem, FolderBins, FolderShelf, LockableFile, StdFolder, StdSink, read_once,
 };
 pub use environment::{Environment, ProgramEnvironment};
 pub use in_folder::{depend_in_folder, merge_in_folder, tangle_in_folder};

@@ -1,6 +1,5 @@
 // What the programs log, as chunks. No function here allocates.
-ghost use Rattle.std.specs.Prelude.{◌≡◌, ◌≤◌, ◌<◌, ◌+◌, ◌∷◌, ◌++◌, [], codes, length, map};
-ghost use Rattle.std.specs.Prelude.{slice_index_or};
+ghost use Rattle.std.specs.Prelude.{◌≡◌, ◌≤◌, ◌<◌, ◌+◌, ◌∷◌, ◌++◌, [], codes, length, map, slice_index_or};
 ghost use Rattle.cweb_tools.specs.Items.{closing, counts, cycle_step, line, star};
 ghost use Rattle.cweb_tools.specs.inner.LogText.{joined_parts};
 

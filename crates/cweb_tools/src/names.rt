@@ -2,7 +2,7 @@
 ghost use Rattle.std.specs.Prelude.{◌≡◌, []};
 ghost use Rattle.cweb_lines.specs.surface.OpenedFileNames.{opened_file_names};
 ghost use Rattle.cweb_out.specs.Outputs.{name_spelling, output_name};
-ghost use Rattle.cweb_tools.specs.Log.{file_name_at};
+ghost use Rattle.cweb_tools.specs.Items.{file_name_at};
 
 use cweb_files::FileId;
 use cweb_lines::FileNames;

@@ -1,8 +1,8 @@
 // The command line of `ctangle`.
-ghost use Rattle.std.specs.Prelude.{◌≡◌, ◌≢◌, Some, None, map, string_bytes, slice_get, IfOk};
+ghost use Rattle.std.specs.Prelude.{◌≡◌, ◌≢◌, Some, None, map, option_map, string_bytes, slice_get, IfOk};
 ghost use Rattle.std.specs.List.{after_last};
 ghost use Rattle.std.specs.Option.{option_copied};
-ghost use Rattle.cweb_tools.specs.CommandLine.{main_by, named_by, options_by, other_words, stem};
+ghost use Rattle.cweb_tools.specs.CommandLine.{main_by, named_by, options_by, other_words, stem, with_shown};
 ghost use Rattle.cweb_out.specs.Outputs.{is_slash};
 ghost use Rattle.cweb_rules.specs.Bytes.{is_letter};
 
@@ -92,10 +92,9 @@ impl Options {
         change: Option<&str>,
         out: Option<&str>,
     ) -> Result<Options, Stop>
-        ensures parses { Parses
-            (named_by web.now (option_copied change.entry) (option_copied out.entry))
-            (λ read. (options_of read).names) result }
-        ensures shown { IfOk result (λ read. (options_of read).shown ≡ shown) }
+        ensures { Parses (option_map (with_shown shown)
+            (named_by web.now (option_copied change.entry) (option_copied out.entry)))
+            options_of result }
     {
         if !out.is_none_or(can_name_file) {
             return Err(Stop::Usage);

@@ -7,8 +7,7 @@ ghost use Rattle.cweb_out.specs.surface.Outputs.{output_name_at};
 ghost use Rattle.cweb_out.specs.Printing.{setting, file};
 ghost use Rattle.cweb_tools.specs.inner.Does.{SinkCountsFit, ending_of, DoesInOut, DoesInBoth};
 ghost use Rattle.cweb_tools.specs.Acts.{writes};
-ghost use Rattle.cweb_tools.specs.inner.Expanders.{IsReady, StaysReady, output_ending, file_at};
-ghost use Rattle.cweb_tools.specs.inner.Expanders.{planned_files, left_in};
+ghost use Rattle.cweb_tools.specs.inner.Tangle.{IsReady, StaysReady, output_ending, file_at, planned_files, left_in};
 ghost use Rattle.cweb_tools.specs.Script.{output_acts, outputs_acts};
 
 use crate::log_text::LogLine;

@@ -2,7 +2,7 @@
 ghost use Rattle.std.specs.Prelude.{◌≡◌, ◌<◌, ◌+◌, ◌^◌, ℕ, List, [], None, Some, All, IfOk, codes};
 ghost use Rattle.std.specs.Prelude.{map, option_map, string_bytes, IsUtf8};
 ghost use Rattle.cweb_tools.specs.inner.Variables.{Variables};
-ghost use Rattle.cweb_tools.specs.Log.{stop_line};
+ghost use Rattle.cweb_tools.specs.Items.{stop_line};
 ghost use Rattle.cweb_tools.specs.DeviceModels.{Logs};
 
 use crate::environment::Environment;

@@ -6,10 +6,8 @@ ghost use Rattle.cweb_tools.specs.Script.{closing_acts, starred_acts, when};
 ghost use Rattle.cweb_scan.specs.surface.Scan.{scanned_model};
 ghost use Rattle.cweb_tools.specs.Tangle.{numbers_of};
 
-use crate::log_text::{LogLine, LogText};
-use crate::options::Shown;
 use crate::web::count_parts;
-use crate::writing::write_log;
+use crate::{LogLine, LogText, Shown, write_log};
 use cweb_lines::{Sink, SinkFault};
 use cweb_scan::Scanned;
 

@@ -5,7 +5,7 @@ ghost use Rattle.cweb_lines.specs.surface.MergerCalls.{so_far};
 ghost use Rattle.cweb_scan.specs.surface.Scan.{IsScanBelow, scanned_model};
 ghost use Rattle.cweb_tools.specs.surface.Options.{options_of};
 ghost use Rattle.cweb_tools.specs.DeviceModels.{contents_of, failed_reads};
-ghost use Rattle.cweb_tools.specs.Course.{world_of};
+ghost use Rattle.cweb_tools.specs.MergeActs.{world_of};
 ghost use Rattle.cweb_tools.specs.inner.Tangle.{CompletesScan, StopsScan, tangle_course};
 
 use crate::options::Options;

@@ -1,6 +1,6 @@
 // The line for what stopped a run.
 ghost use Rattle.std.specs.Prelude.{◌≡◌};
-ghost use Rattle.cweb_tools.specs.Log.{message_line, stop_line};
+ghost use Rattle.cweb_tools.specs.Items.{message_line, stop_line};
 ghost use Rattle.cweb_tools.specs.inner.LogText.{joined_parts};
 
 use crate::chunks::{Chunk, NOTHING, fault_chunk};

@@ -3,7 +3,7 @@ ghost use Rattle.std.specs.Prelude.{◌≡◌};
 ghost use Rattle.std.specs.Option.{option_copied};
 ghost use Rattle.cweb_lines.specs.surface.OpenedFileNames as spec;
 ghost use Rattle.cweb_tools.specs.inner.LogText.{start_subject, subject};
-ghost use Rattle.cweb_tools.specs.Course.{change_name, folder_of};
+ghost use Rattle.cweb_tools.specs.MergeActs.{change_name, folder_of};
 
 use crate::names::file_name;
 use cweb_lines::{FileNames, Stop};

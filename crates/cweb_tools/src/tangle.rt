@@ -1,32 +1,34 @@
 // A run of `ctangle`.
-ghost use Rattle.std.specs.Prelude.{◌≡◌, ◌≢◌, ◌<◌, ◌+◌, ◌^◌, None, Some, IfErr, IfOk, map};
+ghost use Rattle.std.specs.Prelude.{◌≡◌, ◌≢◌, ◌<◌, ◌+◌, ◌^◌, None, Some, IfErr, IfOk, OnOk, length, map, string_bytes};
 ghost use Rattle.std.specs.Option.{option_copied};
-ghost use Rattle.cweb_scan.specs.surface.Scan.{scanned_model};
+ghost use Rattle.cweb_files.specs.Sinks.{SinkModel};
+ghost use Rattle.cweb_lines.specs.surface.MergerCalls.{so_far};
+ghost use Rattle.cweb_scan.specs.surface.Scan.{IsScanBelow, scanned_model};
 ghost use Rattle.cweb_out.specs.surface.Outputs.{IsPlanOf};
 ghost use Rattle.cweb_tools.specs.CommandLine.{options_by};
-ghost use Rattle.cweb_tools.specs.DeviceModels.{CountsFit, contents_of, devices};
-ghost use Rattle.cweb_tools.specs.inner.Does.{SinkCountsFit, DoesInLog, EndsInBoth, log_ending};
-ghost use Rattle.cweb_tools.specs.Items.{banner, no_text};
+ghost use Rattle.cweb_tools.specs.DeviceModels.{CountsFit, contents_of, devices, failed_reads};
+ghost use Rattle.cweb_tools.specs.inner.Does.{SinkCountsFit, at, DoesInLog, EndsInBoth, log_ending};
+ghost use Rattle.cweb_tools.specs.Items.{no_text};
 ghost use Rattle.cweb_tools.specs.surface.Options.{options_of};
 ghost use Rattle.cweb_tools.specs.Acts.{LogsEnding, acts_status, ending};
-ghost use Rattle.cweb_tools.specs.Course.{world_of};
+ghost use Rattle.cweb_tools.specs.MergeActs.{world_of};
 ghost use Rattle.cweb_tools.specs.Script.{planned_acts, web_acts, when};
 ghost use Rattle.cweb_tools.specs.Tangle.{numbers_of, TanglePromises, TanglesFreely};
-ghost use Rattle.cweb_tools.specs.inner.Tangle.{EndsUnread, fault_count, plan_made, status_by};
+ghost use Rattle.cweb_tools.specs.inner.Tangle.{BeginsTangle, EndsTangle, fault_count, plan_made, status_by};
 ghost use Rattle.cweb_tools.specs.inner.Tangle.{IsKnown, faults_of, files_of, web_in};
 
 mod unplanned;
 
-use crate::log_text::LogLine;
-use crate::options::{Options, Shown};
 use crate::outputs::write_outputs;
 use crate::saying::{say, say_end, say_starred};
 use crate::scanning::scan_web;
 use crate::tangle::unplanned::tangle_unplanned;
 use crate::web::{Web, say_faults, status};
 use crate::writing::log_stop;
-use cweb_lines::{Shelf, Sink, SinkFault, Stop};
+use crate::{LogLine, Options, Shown};
+use cweb_lines::{Merger, Shelf, Sink, SinkFault, Stop};
 use cweb_out::{Bins, Expander, OutBuffer, Plan, plan};
+use cweb_scan::Scanned;
 use std::alloc::Global;
 
 const USAGE: &str = "ctangle [options] webfile[.w] [{changefile[.ch]|-} [outfile[.c]]]";
@@ -55,41 +57,40 @@ pub fn run_ctangle<S: Shelf, B: Bins, L: Sink>(
     ensures untouched { options_by (map (λ word. word.now) words.now) ≡ None →
         (shelf.new ≡ shelf.old) × (bins.new ≡ bins.old) }
 {
-    let options = match begin_tangle(alloc, words, log) {
-        Ok(options) => options,
-        Err(status) => return status,
-    };
-    match scan_web(alloc, &options, inputs, shelf, log) {
-        Ok(read) => {
-            let web = Web::of(&read);
-            tangle_web(
-                alloc,
-                options.shown(),
-                options.main.as_str(),
-                web,
-                bins,
-                log,
-            )
-        }
+    match begin_tangle(alloc, words, inputs, shelf, log) {
+        Ok(begun) => tangle_web(alloc, &begun.0, Web::of(&begun.1), bins, log),
         Err(status) => status,
     }
 }
 
-/// Parses the arguments and logs the banner. If that ends the run, returns the status.
-pub(crate) fn begin_tangle<L: Sink>(
+/// Parses the arguments, logs the banner, and opens and scans the web. If that ends the run, returns the status.
+pub(crate) fn begin_tangle<S: Shelf, L: Sink>(
     alloc: Global,
     words: &[&str],
+    inputs: Option<&str>,
+    shelf: &mut S,
     log: &mut L,
-) -> Result<Options, u8>
-    requires { (L.model log.old).failed + 1 < 2 ^ 64 }
-    ensures ok { IfOk result (λ options. options_by (map (λ word. word.now) words.now)
-        ≡ Some (options_of options)) }
-    ensures banner { IfOk result (λ options.
-        DoesInLog (when (options_of options).shown.banner banner) None
-        (L.model log.old) (L.model log.new)) }
-    ensures ends { IfErr result (λ status.
-        EndsUnread (options_by (map (λ word. word.now) words.now))
-        (L.model log.old) (L.model log.new) status) }
+) -> Result<(Options, (Merger<S>, Scanned)), u8>
+    requires shelf_count { (S.model shelf.old).failed + 1 < 2 ^ 64 }
+    requires log_count { (L.model log.old).failed + 1 < 2 ^ 64 }
+    ensures begins { IfOk result (λ begun. BeginsTangle
+        (options_by (map (λ word. word.now) words.now))
+        (world_of (contents_of (S.model shelf.old)).texts (option_copied inputs.entry))
+        (failed_reads (S.model shelf.old)) (failed_reads (S.model shelf.new))
+        (L.model log.old) (L.model log.new) begun.0
+        (so_far begun.1.0).names (so_far begun.1.0).faults (scanned_model begun.1.1)) }
+    ensures ok { IfOk result (λ begun. options_by (map (λ word. word.now) words.now)
+        ≡ Some (options_of begun.0)) }
+    ensures below { IfOk result (λ begun.
+        IsScanBelow (length (so_far begun.1.0).names) (scanned_model begun.1.1)) }
+    ensures calm { OnOk result ((L.model log.new).failed ≡ (L.model log.old).failed) }
+    ensures ends { IfErr result (λ status. (out : SinkModel) → EndsTangle
+        (options_by (map (λ word. word.now) words.now))
+        (world_of (contents_of (S.model shelf.old)).texts (option_copied inputs.entry))
+        (at (failed_reads (S.model shelf.old)) out (L.model log.old))
+        (at (failed_reads (S.model shelf.new)) out (L.model log.new)) status) }
+    ensures untouched { options_by (map (λ word. word.now) words.now) ≡ None →
+        shelf.new ≡ shelf.old }
 {
     let options = match Options::read(alloc, words) {
         Ok(options) => options,
@@ -98,25 +99,30 @@ pub(crate) fn begin_tangle<L: Sink>(
     if let Err(_) = say(options.banner, LogLine::Banner, log) {
         return Err(1);
     }
-    Ok(options)
+    match scan_web(alloc, &options, inputs, shelf, log) {
+        Ok(read) => Ok((options, read)),
+        Err(status) => Err(status),
+    }
 }
 
 /// Logs the faults of a scanned web, plans its outputs, and continues with the plan.
 pub(crate) fn tangle_web<B: Bins, L: Sink>(
     alloc: Global,
-    shown: Shown,
-    main: &str,
+    options: &Options,
     web: Web<'_>,
     bins: &mut B,
     log: &mut L,
 ) -> u8
     requires known { IsKnown web }
     requires counts { SinkCountsFit (B.model bins.old).failed (L.model log.old).failed }
-    ensures { let acts = web_acts shown (web_in web.entry main.now) in
+    ensures { let acts =
+        web_acts (options_of options.now).shown (web_in web.entry (string_bytes options.now.main)) in
         EndsInBoth acts (acts_status acts)
         (B.model bins.old) (B.model bins.new)
         (L.model log.old) (L.model log.new) result }
 {
+    let shown = options.shown();
+    let main = options.main.as_str();
     if let Err(_) = say_starred(shown.progress, web.scanned.starred.as_slice(), log) {
         return 1;
     }

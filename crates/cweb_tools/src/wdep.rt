@@ -6,21 +6,18 @@ ghost use Rattle.cweb_tools.specs.CommandLine.{options_by};
 ghost use Rattle.cweb_tools.specs.DeviceModels.{CountsFit, contents_of, devices};
 ghost use Rattle.cweb_tools.specs.inner.Does.{SinkCountsFit, EndsInBoth};
 ghost use Rattle.cweb_tools.specs.Acts.{acts_status};
-ghost use Rattle.cweb_tools.specs.Course.{world_of};
-ghost use Rattle.cweb_tools.specs.Depend.{DependPromises, DependsFreely, depend_plan_acts, depend_web_acts};
-ghost use Rattle.cweb_tools.specs.Depend.{targets_by};
+ghost use Rattle.cweb_tools.specs.MergeActs.{world_of};
+ghost use Rattle.cweb_tools.specs.Depend.{DependPromises, DependsFreely, depend_plan_acts, depend_web_acts, targets_by};
 ghost use Rattle.cweb_tools.specs.declared.rule_targets.Targets.{Targets};
-ghost use Rattle.cweb_tools.specs.inner.Tangle.{fault_count, plan_made, status_by, faults_of};
-ghost use Rattle.cweb_tools.specs.inner.Tangle.{files_of, web_in};
+ghost use Rattle.cweb_tools.specs.inner.Tangle.{fault_count, plan_made, status_by, faults_of, files_of, web_in};
 
 use crate::depfile::depfile;
-use crate::log_text::{LogLine, LogText};
-use crate::options::Options;
 use crate::rule_targets::Targets;
 use crate::saying::say;
 use crate::scanning::scan_web;
 use crate::web::{Web, say_faults, status};
 use crate::writing::{log_stop, write_log};
+use crate::{LogLine, LogText, Options};
 use cweb_lines::{Shelf, Sink, Stop, write_all};
 use cweb_out::{Plan, plan};
 use std::alloc::Global;
@@ -60,11 +57,14 @@ pub fn run_wdep<S: Shelf, W: Sink, L: Sink>(
         Err(stop) => return log_stop(log, stop, USAGE),
     };
     match scan_web(alloc, &options, inputs, shelf, log) {
-        Ok(read) => {
-            let web = Web::of(&read);
-            let targets = Targets::of(words);
-            depend_web(alloc, options.main.as_str(), web, targets, out, log)
-        }
+        Ok(read) => depend_web(
+            alloc,
+            options.main.as_str(),
+            Web::of(&read),
+            Targets::of(words),
+            out,
+            log,
+        ),
         Err(status) => status,
     }
 }

@@ -1,16 +1,15 @@
 // A scanned web.
-ghost use Rattle.std.specs.Prelude.{◌≡◌, ◌<◌, ◌+◌, ◌^◌, ◌==◌, if◌then◌else◌, length};
+ghost use Rattle.std.specs.Prelude.{◌≡◌, ◌<◌, ◌+◌, ◌^◌, ◌==◌, if◌then◌else◌, length, map};
 ghost use Rattle.std.specs.List.{flat_map};
 ghost use Rattle.cweb_lines.specs.surface.MergerCalls.{so_far};
 ghost use Rattle.cweb_scan.specs.surface.Scan.{IsScanBelow, scanned_model};
 ghost use Rattle.cweb_files.specs.surface.Writes.{Wrote};
 ghost use Rattle.cweb_tools.specs.Items.{line};
 ghost use Rattle.cweb_tools.specs.inner.Tangle.{fault_count, IsKnown, faults_of, files_of};
-ghost use Rattle.cweb_tools.specs.inner.Tangle.{said_faults};
+ghost use Rattle.cweb_tools.specs.Acts.{says};
 ghost use Rattle.cweb_tools.specs.inner.Does.{DoesInLog, log_ending};
 
-use crate::log_text::LogText;
-use crate::writing::write_log;
+use crate::{LogText, write_log};
 use cweb_lines::{FileNames, Merger, Shelf, Sink, SinkFault, SourceFault};
 use cweb_scan::Scanned;
 use cweb_store::{Parts, Store};
@@ -72,7 +71,7 @@ pub(crate) fn count_parts(mut parts: Parts<'_>) -> u32
 /// Logs the faults of the files, the source and the names.
 pub(crate) fn say_faults<L: Sink>(web: Web<'_>, log: &mut L) -> Result<(), SinkFault>
     requires { (L.model log.old).failed + 1 < 2 ^ 64 }
-    ensures { DoesInLog (said_faults web.entry) (log_ending result)
+    ensures { DoesInLog (map says (faults_of web.entry)) (log_ending result)
         (L.model log.old) (L.model log.new) }
 {
     if web.fault_count() == 0 {

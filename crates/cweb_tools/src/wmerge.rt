@@ -2,20 +2,17 @@
 ghost use Rattle.std.specs.Prelude.{◌≡◌, ◌<◌, ◌+◌, ◌^◌, map, None, Some};
 ghost use Rattle.std.specs.Option.{option_copied};
 ghost use Rattle.cweb_lines.specs.surface.OpenedFileNames as spec;
-ghost use Rattle.cweb_lines.specs.surface.MergerCalls.{stop_in};
 ghost use Rattle.cweb_tools.specs.Items.{source_item};
-ghost use Rattle.cweb_tools.specs.inner.LogText.{merge_word_names};
+ghost use Rattle.cweb_tools.specs.inner.Variables.{merge_word_names};
 ghost use Rattle.cweb_tools.specs.DeviceModels.{CountsFit, contents_of, devices};
 ghost use Rattle.cweb_tools.specs.CommandLine.{web_names_by};
-ghost use Rattle.cweb_tools.specs.inner.Does.{MergesBegun, EndsMerge, merge_course, EndsInLog};
+ghost use Rattle.cweb_tools.specs.inner.Does.{EndsMerge, merge_course, EndsInLog};
 ghost use Rattle.cweb_tools.specs.Acts.{acts_status, says};
-ghost use Rattle.cweb_tools.specs.Course.{world_of};
-ghost use Rattle.cweb_tools.specs.MergeActs.{MergePromises, MergesFreely};
+ghost use Rattle.cweb_tools.specs.MergeActs.{world_of, MergePromises, MergesFreely};
 
-use crate::log_text::LogText;
 use crate::subjects::{folder, start_subject, subject};
-use crate::words::MergeWords;
 use crate::writing::{log_stop, write_log};
+use crate::{LogText, MergeWords};
 use cweb_lines::{FileNames, Merger, Shelf, Sink, SourceFault, write_merged_in_chunks};
 use std::alloc::Global;
 
@@ -56,6 +53,7 @@ pub fn run_wmerge<S: Shelf, W: Sink, L: Sink>(
     merge_web(alloc, &args, inputs, shelf, out, log)
 }
 
+/// Opens the web and its change file, and writes the merged lines.
 fn merge_web<S: Shelf, W: Sink, L: Sink>(
     alloc: Global,
     args: &MergeWords,
@@ -72,7 +70,7 @@ fn merge_web<S: Shelf, W: Sink, L: Sink>(
         EndsMerge names (merge_course world names) before
         (devices S.Shelf W.Sink L.Sink shelf.new out.new log.new) result }
 {
-    match Merger::start(
+    let mut merger = match Merger::start(
         alloc,
         shelf,
         args.web.as_str(),
@@ -80,29 +78,14 @@ fn merge_web<S: Shelf, W: Sink, L: Sink>(
         args.change(),
         folder(inputs),
     ) {
-        Ok(mut merger) => merge_begun(&mut merger, shelf, out, log),
-        Err(stop) => log_stop(
+        Ok(merger) => merger,
+        Err(stop) => return log_stop(
             log,
             stop,
             start_subject(args.web.as_str(), args.change(), stop),
         ),
-    }
-}
-
-/// Writes the merged lines of a merge that has begun.
-fn merge_begun<S: Shelf, W: Sink, L: Sink>(
-    merger: &mut Merger<S>,
-    shelf: &mut S,
-    out: &mut W,
-    log: &mut L,
-) -> u8
-    requires running { stop_in merger.old ≡ None }
-    requires counts { CountsFit (devices S.Shelf W.Sink L.Sink shelf.old out.old log.old) }
-    ensures { MergesBegun (S.model shelf.old) merger.old
-        (W.model out.old) (L.model log.old)
-        (devices S.Shelf W.Sink L.Sink shelf.new out.new log.new) result }
-{
-    match write_merged_in_chunks(merger, shelf, out, CHUNK_SIZE) {
+    };
+    match write_merged_in_chunks(&mut merger, shelf, out, CHUNK_SIZE) {
         Ok(()) => log_faults(log, merger.names(), merger.faults()),
         Err(stop) => log_stop(log, stop, subject(merger.names(), stop)),
     }

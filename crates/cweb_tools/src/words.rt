@@ -1,11 +1,9 @@
 // The command line of `wmerge`.
-ghost use Rattle.std.specs.Prelude.{◌≡◌, ◌++◌, Some, None, map, codes, string_bytes};
-ghost use Rattle.std.specs.Prelude.{option_map, IfOk};
+ghost use Rattle.std.specs.Prelude.{◌≡◌, ◌++◌, Some, None, map, codes, string_bytes, option_map, IfOk};
 ghost use Rattle.std.specs.List.{list_any};
 ghost use Rattle.std.specs.Option.{option_copied};
-ghost use Rattle.cweb_tools.specs.CommandLine.{web_names_by, web_names_with, web_names_for};
-ghost use Rattle.cweb_tools.specs.CommandLine.{is_dash, is_option, can_name_file};
-ghost use Rattle.cweb_tools.specs.CommandLine.{has_extension, extended, second_try};
+ghost use Rattle.cweb_tools.specs.CommandLine.{web_names_by, is_dash, is_option, can_name_file, has_extension};
+ghost use Rattle.cweb_tools.specs.CommandLine.{extended, second_try};
 ghost use Rattle.cweb_out.specs.Outputs.{is_control};
 
 use cweb_lines::Stop;
@@ -21,49 +19,26 @@ pub struct MergeWords {
 
 impl MergeWords {
     ghost use Rattle.cweb_tools.specs.CommandLine.{merge_by};
-    ghost use Rattle.cweb_tools.specs.inner.LogText.{merge_word_names};
     ghost use Rattle.cweb_tools.specs.surface.Options.{Parses};
+    ghost use Rattle.cweb_tools.specs.inner.Variables.{merge_word_names};
 
     /// Parses the arguments, without the program's name, and adds extensions. It checks them before any allocation.
     pub fn read(alloc: Global, words: &[&str]) -> Result<MergeWords, Stop>
         ensures { Parses (web_names_by (map (λ word. word.now) words.now)) merge_word_names result }
     {
         match words {
-            [web] => MergeWords::named(alloc, web, None),
-            [web, change] => MergeWords::with_change(alloc, web, change),
+            [web] => MergeWords::by(alloc, web, None),
+            [web, change] => MergeWords::by(alloc, web, Some(change)),
             _ => Err(Stop::Usage),
         }
     }
 
-    /// Checks the words for the web and the change file, and makes names of them.
+    /// Checks the words for the web and the change file, and makes names of them. A lone `-` means no change file.
     pub(crate) fn by(alloc: Global, web: &str, change: Option<&str>) -> Result<MergeWords, Stop>
         ensures { Parses (merge_by web.now (option_copied change.entry)) merge_word_names result }
     {
-        match change {
-            Some(change) => MergeWords::with_change(alloc, web, change),
-            None => MergeWords::named(alloc, web, None),
-        }
-    }
-
-    /// The names from two words. A lone `-` as the second word means no change file.
-    fn with_change(alloc: Global, web: &str, change: &str) -> Result<MergeWords, Stop>
-        ensures { Parses (web_names_with web.now change.now) merge_word_names result }
-    {
-        if is_dash(change) {
-            return MergeWords::named(alloc, web, None);
-        }
-        if !can_name_file(change) {
-            return Err(Stop::Usage);
-        }
-        MergeWords::named(alloc, web, Some(change))
-    }
-
-    /// The names from the web's word, which is checked here, and the change file's.
-    fn named(alloc: Global, web: &str, change: Option<&str>) -> Result<MergeWords, Stop>
-        ensures { Parses (web_names_for web.now (option_copied change.entry))
-            merge_word_names result }
-    {
-        if !can_name_file(web) {
+        let change = change.filter(|word| !is_dash(word));
+        if !can_name_file(web) || !change.is_none_or(can_name_file) {
             return Err(Stop::Usage);
         }
         let second = second_try(alloc, web)?;

@@ -3,8 +3,7 @@ ghost use Rattle.std.specs.Prelude.{◌≡◌, ◌<◌, ◌+◌, ◌^◌};
 ghost use Rattle.std.specs.List.{flat_map};
 ghost use Rattle.cweb_files.specs.surface.Writes.{Wrote};
 ghost use Rattle.cweb_tools.specs.DeviceModels.{Logs};
-ghost use Rattle.cweb_tools.specs.Items.{line};
-ghost use Rattle.cweb_tools.specs.Log.{stop_line};
+ghost use Rattle.cweb_tools.specs.Items.{line, stop_line};
 ghost use Rattle.cweb_tools.specs.inner.LogText.{joined_parts, part_bytes, items_of, AppendsToLog};
 
 use crate::chunks::Part;

@@ -1,13 +1,11 @@
 // Files in memory.
-ghost use Rattle.std.specs.Prelude.{◌≡◌, ◌≤◌, ◌<◌, ◌+◌, ◌^◌, ◌++◌, [], length, true, false, not};
-ghost use Rattle.std.specs.Prelude.{filter, None, vec_len, vec_capacity, string_bytes, IsTrue};
-ghost use Rattle.std.specs.Prelude.{IsSome, IsOk, IfOk, IfErr, OnOk, OnErr};
+ghost use Rattle.std.specs.Prelude.{◌≡◌, ◌≤◌, ◌<◌, ◌+◌, ◌^◌, ◌++◌, [], length, true, false, not, filter, None, vec_len};
+ghost use Rattle.std.specs.Prelude.{vec_capacity, string_bytes, IsTrue, IsSome, IsOk, IfOk, IfErr, OnOk, OnErr};
 ghost use Rattle.std.specs.Str.{bytes_eq};
 ghost use Rattle.std.specs.Option.{is_some};
 ghost use Rattle.cweb_files.specs.surface.Writes.{CountsFailure};
 
-use crate::bins::{BinFault, Bins};
-use crate::device::{Sink, SinkFault};
+use crate::{BinFault, Bins, Sink, SinkFault};
 use std::alloc::{AllocError, Global};
 
 /// A committed file or a draft.
@@ -30,9 +28,8 @@ pub struct MemoryBins {
 }
 
 impl MemoryBins {
-    ghost use Rattle.cweb_files.specs.surface.MemoryDevices.{bins_failed, new_draft_room};
-    ghost use Rattle.cweb_files.specs.surface.MemoryDevices.{committed_files, has_draft, list_room};
-    ghost use Rattle.cweb_files.specs.surface.MemoryDevices.{last_refusal};
+    ghost use Rattle.cweb_files.specs.surface.MemoryDevices.{bins_failed, new_draft_room, committed_files, has_draft};
+    ghost use Rattle.cweb_files.specs.surface.MemoryDevices.{list_room, last_refusal};
 
     /// No file yet, with room for `files` entries. Each new draft gets a buffer of `bytes` bytes.
     pub fn with_room(alloc: Global, files: usize, bytes: usize) -> Result<Self, AllocError>
@@ -82,9 +79,8 @@ fn remove_named(files: &mut Vec<BinFile>, name: &str)
 }
 
 impl Sink for MemoryBins {
-    ghost use Rattle.cweb_files.specs.surface.MemoryDevices.{KeepsFiles, KeepsDraftName};
-    ghost use Rattle.cweb_files.specs.surface.MemoryDevices.{beside_draft, bins_failed, bins_model};
-    ghost use Rattle.cweb_files.specs.surface.MemoryDevices.{draft_bytes, draft_room, has_draft};
+    ghost use Rattle.cweb_files.specs.surface.MemoryDevices.{KeepsFiles, KeepsDraftName, beside_draft, bins_failed};
+    ghost use Rattle.cweb_files.specs.surface.MemoryDevices.{bins_model, draft_bytes, draft_room, has_draft};
 
     ghost model = { bins_model };
 
@@ -122,9 +118,8 @@ impl Sink for MemoryBins {
 }
 
 impl Bins for MemoryBins {
-    ghost use Rattle.cweb_files.specs.surface.MemoryDevices.{KeepsFiles, bins_failed, bins_model};
-    ghost use Rattle.cweb_files.specs.surface.MemoryDevices.{draft_room, files_with_draft};
-    ghost use Rattle.cweb_files.specs.surface.MemoryDevices.{new_draft_room, committed_files};
+    ghost use Rattle.cweb_files.specs.surface.MemoryDevices.{KeepsFiles, bins_failed, bins_model, draft_room};
+    ghost use Rattle.cweb_files.specs.surface.MemoryDevices.{files_with_draft, new_draft_room, committed_files};
     ghost use Rattle.cweb_files.specs.surface.MemoryDevices.{has_draft, list_room};
     ghost use Rattle.cweb_files.specs.Sinks.{changed, committed, failing, with_draft, without_draft};
     ghost use Rattle.cweb_files.specs.Bins.{refused};

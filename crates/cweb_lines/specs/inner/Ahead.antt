@@ -1,18 +1,16 @@
 -- Lines in the buffer, and the lookahead.
 use Rattle.std.specs.Prelude.{◌≡◌, ℕ, ◌+◌, ◌≤◌, ◌<◌, List, length, slice_range, Option, None, Some, ◌-◌, [], ◌∷◌, ◌++◌}
 use Rattle.cweb_lines.specs.Lines.{Line}
-use Rattle.cweb_lines.specs.surface.MergeProgress.{EmitsLines, so_far_of, events_to_come}
+use Rattle.cweb_lines.specs.surface.MergeProgress.{EmitsLines, so_far_of, events_to_come, MergeState}
 use Rattle.cweb_lines.specs.surface.MergerCalls.{AreReadersKnown, Grows}
 use Rattle.cweb_lines.specs.inner.Passing.{buffer_of, top_of, ComesNext, EmitsBufferedLines, IsStretchAt, lines_next}
 use Rattle.cweb_lines.specs.inner.Passing.{with_newlines}
 use Rattle.cweb_lines.specs.declared.passing.line_span.LineSpan.{LineSpan}
 use Rattle.cweb_lines.specs.declared.passing.stretch.Stretch.{Stretch}
-use Rattle.cweb_lines.specs.declared.merge_state.MergeState.{MergeState}
-use Rattle.cweb_lines.specs.declared.open_source.OpenSource.{OpenSource}
+use Rattle.cweb_lines.specs.surface.OpenSources.{OpenSource, number_or_zero}
 use Rattle.cweb_lines.specs.Change.{WaitingEntry}
 use Rattle.cweb_lines.specs.surface.OpenedFileNames.{IsOneLine, opened_file_names}
 use Rattle.cweb_lines.specs.inner.OpenSources.{files_up_to}
-use Rattle.cweb_lines.specs.surface.OpenSources.{number_or_zero}
 use Rattle.cweb_lines.specs.declared.counters.TakenCounters.{TakenCounters}
 use Rattle.cweb_lines.specs.declared.limits.TheConstants.{LINES, BYTES}
 use Rattle.cweb_lines.specs.declared.merger.ahead.Ahead.{Ahead}

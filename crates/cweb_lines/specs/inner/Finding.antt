@@ -12,18 +12,10 @@ abbrev pub found_as : {R : Type 0} → (R → List ℕ) → Option (Opening R) �
 found_as left None = None
 found_as left (Some opening) = Some (string_bytes opening.name, left opening.reader)
 
-abbrev pub changes_found : {R : Type 0} → (R → List ℕ) → Option (Option (Opening R)) → Option (Option Found)
-changes_found left None = None
-changes_found left (Some opening) = Some (found_as left opening)
-
 -- The reader of an opening was opened under its name.
 abbrev pub IsOpened : {R : Type 0} → (R → List ℕ) → Option (Opening R) → Type 0
 IsOpened opened_as None = Unit {0}
 IsOpened opened_as (Some opening) = opened_as opening.reader ≡ string_bytes opening.name
-
-abbrev pub IsChangeOpened : {R : Type 0} → (R → List ℕ) → Option (Option (Opening R)) → Type 0
-IsChangeOpened opened_as None = Unit {0}
-IsChangeOpened opened_as (Some opening) = IsOpened opened_as opening
 
 -- The lines of a change file, whose file number is 1.
 abbrev pub lines_found : Option Found → List SourceLine

@@ -1,20 +1,77 @@
--- What calls that take lines promise.
-use Rattle.std.specs.Prelude.{ℕ, List, Option, Result, ◌≡◌, ◌≤◌, ◌<◌, ◌+◌, length, None, Some, Ok, Err, IfOk, IfErr}
-use Rattle.std.specs.Prelude.{IfSome, OnSome, OnErr, ◌-◌, slice_set}
-use Rattle.cweb_files.specs.Shelves.{Observed, ShelfModel}
-use Rattle.cweb_lines.specs.declared.stop.Stop.{Stop}
-use Rattle.cweb_lines.specs.declared.open_source.OpenSource.{OpenSource}
-use Rattle.cweb_lines.specs.surface.OpenSources.{IsReaderNamed, AreReadersNamed, BlamesFile, name_of_file, StopsFor}
-use Rattle.cweb_lines.specs.surface.OpenSources.{StopsReading, matches_at, number_or_zero, lines_at, source_depth}
-use Rattle.cweb_lines.specs.surface.OpenSources.{ReadsShelf, counters_of}
-use Rattle.cweb_lines.specs.inner.OpenSources.{AreDeep, Counted, DepthAfter, NamesFiles, StaysBelow, files_up_to}
-use Rattle.cweb_lines.specs.inner.OpenSources.{line_number, maximum_of, line_number_at, FirstStops, NeedsRead}
-use Rattle.cweb_lines.specs.inner.OpenSources.{TakesNextLine}
+-- What a source has left, and what calls that take lines promise.
+use Rattle.std.specs.Prelude.{◌≡◌, ℕ, ◌<◌, List, [], ◌∷◌, ◌++◌, length, Bool, true, false, Result, Err, IsErrOf, ◌≢◌}
+use Rattle.std.specs.Prelude.{◌+◌, ◌≤◌, Option, None, Some, Ok, IfOk, IfErr, IfSome, OnSome, OnErr, ◌-◌, slice_set}
+use Rattle.cweb_files.specs.Shelves.{Observed, ShelfModel, failed_read}
+use Rattle.cweb_lines.specs.surface.OpenedFileNames.{HasNoNewline, IsOneLine}
+use Rattle.cweb_lines.specs.declared.limits.TheConstants.{LINE_LENGTH}
+use Rattle.cweb_lines.specs.declared.source.Source.{Source}
+use Rattle.cweb_lines.specs.declared.source.LineFault.{LineFault}
+use Rattle.cweb_lines.specs.declared.source.LineFault.TheVariants.{Read, TooLong}
+use Rattle.cweb_lines.specs.declared.source.LineTermination.{LineTermination}
+use Rattle.cweb_lines.specs.declared.source.LineTermination.TheVariants.{Ended, Last, Full}
+use Rattle.cweb_lines.specs.surface.OpenSources.{buffered, IsReaderNamed, AreReadersNamed, BlamesFile, name_of_file}
+use Rattle.cweb_lines.specs.surface.OpenSources.{StopsFor, StopsReading, matches_at, number_or_zero, lines_at}
+use Rattle.cweb_lines.specs.surface.OpenSources.{source_depth, ReadsShelf, counters_of, Stop, OpenSource, Stack}
+use Rattle.cweb_lines.specs.Lines.{trimmed}
+use Rattle.cweb_lines.specs.inner.OpenSources.{newline_bytes, AreDeep, Counted, DepthAfter, NamesFiles, StaysBelow}
+use Rattle.cweb_lines.specs.inner.OpenSources.{files_up_to, line_number, maximum_of, line_number_at, FirstStops}
+use Rattle.cweb_lines.specs.inner.OpenSources.{NeedsRead, TakesNextLine}
 use Rattle.cweb_lines.specs.OpenSources.{TakenCountersModel}
-use Rattle.cweb_lines.specs.surface.OpenedFileNames.{IsOneLine}
 use Rattle.cweb_lines.specs.declared.counters.TakenCounters.{TakenCounters}
 use Rattle.cweb_lines.specs.declared.open_source.LineAt.{LineAt}
-use Rattle.cweb_lines.specs.declared.open_source.stack.Stack.{Stack}
+
+-- The bytes that a source has left: those in its buffer, then those of its reader.
+abbrev pub bytes_left : {R : Type 0} → (R → List ℕ) → Source R → List ℕ
+bytes_left left source = buffered source ++ left source.reader.value
+
+-- A raw line is taken from what is left.
+abbrev pub TakesRawLine : List ℕ → LineTermination → List ℕ → List ℕ → Type 0
+TakesRawLine old Ended line new = (old ≡ []) × (line ≡ []) × (new ≡ [])
+TakesRawLine old Last line new = (old ≡ line) × HasNoNewline line × (0 < length line) × (new ≡ [])
+TakesRawLine old Full line new = (old ≡ line ++ 10 ∷ new) × HasNoNewline line
+
+-- The next line is longer than the limit.
+abbrev pub IsLongerThan : ℕ → List ℕ → Type 0
+IsLongerThan limit text = (prefix : List ℕ) × (rest : List ℕ) × (text ≡ prefix ++ rest) × HasNoNewline prefix
+    × (limit < length prefix)
+
+-- A line takes the buffered bytes up to a newline, or all of them.
+abbrev pub TakesFromBuffer : List ℕ → List ℕ → Bool → List ℕ → List ℕ → Type 0
+TakesFromBuffer old line true longer new = (prefix : List ℕ) × HasNoNewline prefix × (old ≡ prefix ++ 10 ∷ new)
+    × (longer ≡ line ++ prefix)
+TakesFromBuffer old line false longer new = HasNoNewline old × (longer ≡ line ++ old) × (new ≡ [])
+
+-- A shelf after the reader was read: a fault of reading is counted and blames it.
+abbrev pub after_reading : {R A : Type 0} → R → Result A LineFault → ShelfModel R → ShelfModel R
+after_reading reader (Err Read) shelf = failed_read reader shelf
+after_reading reader _ shelf = shelf
+
+-- Only the reader of this source is read. It keeps its name. A failed read is counted and blames it.
+pub record ReadsSource {R A : Type 0} (old new : ShelfModel R) (source source' : Source R)
+    (result : Result A LineFault) : Type 0 where
+  pub shelf : new ≡ after_reading source.reader.value result old
+  pub opened : Observed old (λ seen. seen.opened_as source'.reader.value ≡ seen.opened_as source.reader.value)
+
+-- Why there is no line: a read failed, which no whole line in the buffer needed, or the next line exceeds the limit.
+pub record FailsInLine {R A : Type 0} (shelf : ShelfModel R) (source : Source R)
+    (result : Result A LineFault) : Type 0 where
+  pub needed : IsErrOf result Read → HasNoNewline (buffered source)
+  pub too_long : Observed shelf (λ seen. IsErrOf result TooLong
+      → IsLongerThan LINE_LENGTH (bytes_left seen.left source))
+
+-- A line is taken. `size` includes the newline, if it has one.
+pub record TakesTrimmedLine (old bytes : List ℕ) (size : ℕ) (new : List ℕ) : Type 0 where
+  pub taken : LineTermination
+  pub raw : List ℕ
+  pub some : taken ≢ Ended
+  pub takes : TakesRawLine old taken raw new
+  pub short : length raw ≤ LINE_LENGTH
+  pub bytes_are : bytes ≡ trimmed raw
+  pub size_is : size ≡ length raw + newline_bytes taken
+
+abbrev pub TakesTrimmedOrEnds : List ℕ → Option ℕ → List ℕ → List ℕ → Type 0
+TakesTrimmedOrEnds old None bytes new = (old ≡ []) × (new ≡ [])
+TakesTrimmedOrEnds old (Some size) bytes new = TakesTrimmedLine old bytes size new
 
 -- The reader of a source is still opened under the name of its file, which a read fault blames.
 abbrev pub KeepsReaderName : {R A : Type 0} → ShelfModel R → ShelfModel R → Option (OpenSource R)
@@ -62,9 +119,8 @@ abbrev pub KeepsNumbers : {R : Type 0} → Stack R → Stack R → Type 0
 KeepsNumbers old new = (place : ℕ) → place < new.depth → line_number_at place new.texts ≡ line_number_at place old.texts
 
 abbrev pub UnlessTaken : Result (Option LineAt) Stop → Type 0 → Type 0
-UnlessTaken (Ok None) Says = Says
 UnlessTaken (Ok (Some at)) Says = Unit {0}
-UnlessTaken (Err stop) Says = Says
+UnlessTaken result Says = Says
 
 -- The deepest source is closed if it has no line. Otherwise the line is its next one.
 pub record ClosesTop {R : Type 0} (old new : Stack R) (result : Result (Option LineAt) Stop) : Type 0 where

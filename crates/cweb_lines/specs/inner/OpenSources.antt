@@ -1,22 +1,17 @@
 -- What open sources have left, and how taking a line changes that.
-use Rattle.std.specs.Prelude.{◌≡◌, ℕ, suc, ◌+◌, ◌-◌, ◌≤◌, ◌<◌, max, List, [], ◌∷◌, ◌++◌, Option}
-use Rattle.std.specs.Prelude.{None, Some, Result, Ok, Err, slice_index_or}
+use Rattle.std.specs.Prelude.{◌≡◌, ℕ, suc, ◌+◌, ◌-◌, ◌≤◌, ◌<◌, max, List, [], ◌∷◌, ◌++◌, Option, None, Some, Result, Ok}
+use Rattle.std.specs.Prelude.{Err, slice_index_or}
 use Rattle.cweb_files.specs.declared.place.FileId.{FileId}
-use Rattle.cweb_files.specs.declared.place.Place.{Place}
-use Rattle.cweb_lines.specs.Lines.{SourceLine, lines_in, RawLine, Thing, raw, raws}
+use Rattle.cweb_lines.specs.Lines.{Place, SourceLine, lines_in, RawLine, Thing, raw, raws}
 use Rattle.cweb_lines.specs.declared.limits.TheConstants.{LINE_LENGTH}
 use Rattle.cweb_lines.specs.declared.source.LineFault.{LineFault}
 use Rattle.cweb_lines.specs.declared.source.LineFault.TheVariants.{Read, TooLong, Memory as NoMemory}
 use Rattle.cweb_lines.specs.declared.source.LineTermination.{LineTermination}
-use Rattle.cweb_lines.specs.declared.source.LineTermination.TheVariants.{Ended, Last, Full}
-use Rattle.cweb_lines.specs.declared.open_source.stack.Stack.{Stack}
-use Rattle.cweb_lines.specs.declared.stop.Stop.{Stop}
-use Rattle.cweb_lines.specs.declared.stop.Stop.TheVariants.{ReadFault, LineTooLong, Memory}
+use Rattle.cweb_lines.specs.declared.source.LineTermination.TheVariants.{Full}
+use Rattle.cweb_lines.specs.surface.OpenSources.{Stack, Stop, buffered, number_or_zero, things_at, things_over}
+use Rattle.cweb_lines.specs.surface.OpenSources.{things_above, files_named, ReadFault, LineTooLong, Memory, OpenSource}
 use Rattle.cweb_lines.specs.declared.open_source.LineAt.{LineAt}
-use Rattle.cweb_lines.specs.declared.open_source.OpenSource.{OpenSource}
 use Rattle.cweb_lines.specs.surface.OpenedFileNames.{HasNoNewline}
-use Rattle.cweb_lines.specs.surface.OpenSources.{buffered, number_or_zero, things_at, things_over, things_above}
-use Rattle.cweb_lines.specs.surface.OpenSources.{files_named}
 use Rattle.cweb_lines.specs.OpenSources.{TakenCountersModel, RefusesLine}
 
 unfoldable pub maximum_of : {R : Type 0} → (OpenSource R → ℕ) → List (Option (OpenSource R)) → ℕ
@@ -125,14 +120,12 @@ OpensSource {R = R} old new reader file at = (left : R → List ℕ) (low : ℕ)
 
 abbrev pub DepthAfter : ℕ → ℕ → Result (Option LineAt) Stop → Type 0
 DepthAfter old new (Ok None) = new + 1 ≡ old
-DepthAfter old new (Ok (Some at)) = new ≡ old
-DepthAfter old new (Err stop) = new ≡ old
+DepthAfter old new result = new ≡ old
 
 -- A line that was taken is counted.
 abbrev pub Counted : TakenCountersModel → TakenCountersModel → Result (Option LineAt) Stop → Type 0
-Counted old new (Ok None) = (new.lines ≡ old.lines) × (new.bytes ≡ old.bytes)
 Counted old new (Ok (Some at)) = new.lines ≡ old.lines + 1
-Counted old new (Err stop) = (new.lines ≡ old.lines) × (new.bytes ≡ old.bytes)
+Counted old new result = (new.lines ≡ old.lines) × (new.bytes ≡ old.bytes)
 
 abbrev pub stop_for : LineFault → FileId → Stop
 stop_for Read file = ReadFault file
@@ -146,9 +139,8 @@ NeedsRead None (ReadFault file) = ⊥
 NeedsRead slot _ = Unit {0}
 
 abbrev pub newline_bytes : LineTermination → ℕ
-newline_bytes Ended = 0
-newline_bytes Last = 0
 newline_bytes Full = 1
+newline_bytes _ = 0
 
 -- If the stop has a `FileId`, it is this one.
 abbrev pub NamesFile : FileId → Stop → Type 0

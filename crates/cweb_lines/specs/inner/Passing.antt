@@ -1,23 +1,20 @@
 -- Lines that pass through: what they are in the buffer, and how they are taken and appended.
 use Rattle.std.specs.Prelude.{◌≡◌, ℕ, ◌+◌, ◌-◌, ◌<◌, ◌≤◌, Bool, false, List, [], ◌∷◌, ◌++◌, length, map, slice_range}
 use Rattle.std.specs.Prelude.{slice_index_or, Option, None, Some, take}
+use Rattle.std.specs.List.{AllByRecursion}
 use Rattle.cweb_lines.specs.Change.{WaitingEntry}
 use Rattle.cweb_lines.specs.Include.{is_include_line}
 use Rattle.cweb_lines.specs.Lines.{Line, SourceLine, CutLine, numbered_lines, trimmed, Thing, raws}
 use Rattle.cweb_lines.specs.surface.OpenedFileNames.{HasNoNewline}
-use Rattle.cweb_lines.specs.Events.{written_lines}
-use Rattle.cweb_lines.specs.surface.MergeProgress.{EmitsLines, so_far_of, events_to_come, pending_of}
+use Rattle.cweb_lines.specs.Events.{written_lines, LINES, BYTES, LINE_LENGTH}
+use Rattle.cweb_lines.specs.surface.MergeProgress.{EmitsLines, so_far_of, events_to_come, pending_of, MergeState}
 use Rattle.cweb_lines.specs.surface.OpenSources.{AreReadersNamed, IsReaderNamed, lines_at, matches_at, number_or_zero}
-use Rattle.cweb_lines.specs.surface.OpenSources.{source_depth, things_above}
+use Rattle.cweb_lines.specs.surface.OpenSources.{source_depth, things_above, OpenSource, Stack}
 use Rattle.cweb_lines.specs.surface.MergerCalls.{AreReadersKnown}
 use Rattle.cweb_lines.specs.inner.Stages.{IsSettled, begun_by, floor_of}
 use Rattle.cweb_lines.specs.inner.OpenSources.{AreDeep, DeepAt, StaysBelow, files_up_to, maximum_of}
 use Rattle.cweb_lines.specs.declared.counters.TakenCounters.{TakenCounters}
-use Rattle.cweb_lines.specs.declared.limits.TheConstants.{LINES, BYTES, LINE_LENGTH}
 use Rattle.cweb_lines.specs.declared.passing.stretch.Stretch.{Stretch}
-use Rattle.cweb_lines.specs.declared.merge_state.MergeState.{MergeState}
-use Rattle.cweb_lines.specs.declared.open_source.stack.Stack.{Stack}
-use Rattle.cweb_lines.specs.declared.open_source.OpenSource.{OpenSource}
 
 -- A raw line passes through: it is no include line and doesn't begin the entry that waits.
 pub record PassesThrough (entry : Option WaitingEntry) (may_match : Bool) (raw : List ℕ) : Type 0 where
@@ -25,11 +22,6 @@ pub record PassesThrough (entry : Option WaitingEntry) (may_match : Bool) (raw :
   pub short : length raw ≤ LINE_LENGTH
   pub plain : is_include_line (trimmed raw) ≡ false
   pub unbegun : begun_by entry may_match (trimmed raw) ≡ None
-
-abbrev pub AllPassThrough : Option WaitingEntry → Bool → List (List ℕ) → Type 0
-AllPassThrough entry may_match [] = Unit {0}
-AllPassThrough entry may_match (line ∷ lines) = PassesThrough entry may_match line
-    × AllPassThrough entry may_match lines
 
 abbrev pub with_newlines : List (List ℕ) → List ℕ
 with_newlines [] = []
@@ -48,7 +40,7 @@ OnlyLastExceeds room raw_lines = 1 < length raw_lines → length (with_newlines 
 -- Adjacent lines in the buffer that pass through. All but the last are printed as they are, and the last one trimmed.
 pub record IsStretch (entry : Option WaitingEntry) (may_match : Bool) (buffer : List ℕ) (start : ℕ) (s : Stretch)
     (raw_lines : List (List ℕ)) : Type 0 where
-  pub passing : AllPassThrough entry may_match raw_lines
+  pub passing : AllByRecursion (PassesThrough entry may_match) raw_lines
   pub lines : s.lines ≡ length raw_lines
   pub in_place : slice_range buffer start s.end ≡ with_newlines raw_lines
   pub size : start + length (with_newlines raw_lines) ≡ s.end

@@ -3,33 +3,25 @@ use Rattle.std.specs.Prelude.{◌≢◌, ℕ, ◌+◌, ◌&&◌, Bool, List, Opt
 use Rattle.std.specs.Str.{bytes_eq}
 use Rattle.cweb_files.specs.declared.place.Place.{Place}
 use Rattle.cweb_lines.specs.Change.{WaitingEntry}
-use Rattle.cweb_lines.specs.Include.{Found}
 use Rattle.cweb_lines.specs.declared.change.Stage.{Stage}
 use Rattle.cweb_lines.specs.declared.change.Stage.TheVariants.{Done, Seeking, Waiting, Changing}
-use Rattle.cweb_lines.specs.declared.open_source.OpenSource.{OpenSource}
-use Rattle.cweb_lines.specs.surface.OpenSources.{files_named}
+use Rattle.cweb_lines.specs.surface.OpenSources.{files_named, Stop}
 use Rattle.cweb_lines.specs.declared.fault.SourceFault.{SourceFault}
-use Rattle.cweb_lines.specs.declared.stop.Stop.{Stop}
 
 -- The number of sources that stay open.
 abbrev pub floor_of : Stage → ℕ
-floor_of Done = 0
-floor_of Seeking = 0
-floor_of (Waiting begin) = 0
 floor_of (Changing change) = change.below
+floor_of _ = 0
 
 abbrev pub new_depth : Stage → ℕ
-new_depth Done = 0
-new_depth Seeking = 0
-new_depth (Waiting begin) = 0
 new_depth (Changing change) = change.depth
+new_depth _ = 0
 
 -- The least number of files that the entry of a stage implies.
 abbrev pub files_begun : Stage → ℕ
-files_begun Done = 0
-files_begun Seeking = 0
 files_begun (Waiting begin) = begin.file.0 + 1
 files_begun (Changing change) = change.begin.file.0 + 1
+files_begun _ = 0
 
 -- The place of the @x of the entry that this line begins, if any.
 abbrev pub begun_by : Option WaitingEntry → Bool → List ℕ → Option Place
@@ -41,9 +33,8 @@ IsSettled stage = stage ≢ Seeking
 
 abbrev pub IsOutside : Stage → Type 0
 IsOutside Done = Unit {0}
-IsOutside Seeking = ⊥
 IsOutside (Waiting begin) = Unit {0}
-IsOutside (Changing change) = ⊥
+IsOutside _ = ⊥
 
 -- How many turns this stage may take without a line.
 abbrev pub weight_of : Stage → ℕ
@@ -52,13 +43,10 @@ weight_of Seeking = 2
 weight_of (Waiting begin) = 1
 weight_of (Changing change) = 3
 
-abbrev pub stage_for : {R : Type 0} → Option (OpenSource R) → Stage
+-- How a merge with or without a change file begins.
+abbrev pub stage_for : {A : Type 0} → Option A → Stage
 stage_for None = Done
-stage_for (Some text) = Seeking
-
-abbrev pub begun_stage : Option Found → Stage
-begun_stage None = Done
-begun_stage (Some found) = Seeking
+stage_for (Some change) = Seeking
 
 -- The least number of files that these faults imply.
 unfoldable pub files_of_faults : List SourceFault → ℕ

@@ -4,21 +4,18 @@ use Rattle.std.specs.Prelude.{OnErr}
 use Rattle.cweb_files.specs.Shelves.{Observed, ShelfModel, ShelfContents}
 use Rattle.cweb_lines.specs.surface.OpenedFileNames.{opened_file_names}
 use Rattle.cweb_lines.specs.surface.OpenSources.{BlamesFile, name_of_file, counters_of, StopsReading, files_named}
-use Rattle.cweb_lines.specs.surface.OpenSources.{ReadsShelf}
+use Rattle.cweb_lines.specs.surface.OpenSources.{ReadsShelf, Stop, Memory}
 use Rattle.cweb_lines.specs.declared.merge_state.MergeState.{MergeState}
-use Rattle.cweb_lines.specs.declared.stop.Stop.{Stop}
 use Rattle.cweb_lines.specs.surface.MergerCalls.{AreReadersKnown, StopsThere}
 use Rattle.cweb_lines.specs.inner.LineCalls.{AnswersLine}
 use Rattle.cweb_lines.specs.Lines.{Line, SourceLine}
 use Rattle.cweb_lines.specs.Events.{Event}
-use Rattle.cweb_lines.specs.inner.MergeProgress.{TurnCounts, TurnEnds, TurnGains, TurnKnown, TurnLine, turns_left}
-use Rattle.cweb_lines.specs.inner.MergeProgress.{EmitsAfterLine, events_after_line, turn_lines}
+use Rattle.cweb_lines.specs.inner.MergeProgress.{TurnLeaves, turns_left, EmitsAfterLine, events_after_line, turn_lines}
 use Rattle.cweb_lines.specs.inner.Stages.{IsSettled, begun_by}
 use Rattle.cweb_lines.specs.surface.MergeProgress.{EmitsLines, KeepsReported, events_to_come, pending_of, so_far_of}
 use Rattle.cweb_lines.specs.declared.change.old_side.Replaced.{Replaced}
 use Rattle.cweb_lines.specs.declared.step.Turn.{Turn}
 use Rattle.cweb_lines.specs.declared.open_source.LineAt.{LineAt}
-use Rattle.cweb_lines.specs.declared.stop.Stop.TheVariants.{Memory}
 
 -- Only the faults change.
 pub record OnlyReports {R : Type 0} (old new : MergeState R) : Type 0 where
@@ -131,11 +128,7 @@ pub record OnlyObeys {R A : Type 0} (old new : MergeState R) (result : Result A 
 pub record Turns {R : Type 0} (old new : MergeState R) (bytes : List ℕ) (result : Result Turn Stop) : Type 0 where
   pub stopped : new.stopped ≡ old.stopped
   pub grows : length (opened_file_names old.names) ≤ length (opened_file_names new.names)
-  pub counts : IfOk result (λ turn. TurnCounts turn old.limits.lines old.stage new.limits.lines new.stage)
-  pub ends : IfOk result (λ turn. TurnEnds turn new)
-  pub known : IfOk result (λ turn. TurnKnown (length (opened_file_names new.names)) turn)
-  pub line : IfOk result (λ turn. TurnLine turn bytes)
-  pub gains : IfOk result (λ turn. TurnGains turn bytes old.limits.bytes new.limits.bytes)
+  pub leaves : IfOk result (λ turn. TurnLeaves turn bytes old new)
   pub named : IfErr result (λ stop. files_named stop ≤ length (opened_file_names new.names))
   pub reading : IfErr result (λ stop. StopsReading stop)
 

@@ -1,18 +1,83 @@
--- What holds of every merge, in the words of an author of webs.
-use Rattle.std.specs.Prelude.{◌≡◌, ◌≢◌, ◌<◌, ◌≤◌, ℕ, ◌+◌, Bool, true, false, List, [], ◌∷◌, ◌++◌, length, None, Some}
-use Rattle.std.specs.List.{AllByRecursion, list_any}
-use Rattle.std.specs.Option.{is_some}
-use Rattle.std.specs.Str.{bytes_eq}
-use Rattle.cweb_lines.specs.Lines.{Line, SourceLine, lines_in}
-use Rattle.cweb_lines.specs.laws.Lines.{lines}
+-- What holds of every merge, in the words of an author of webs: the outcome of a merge, and laws on it.
+use Rattle.std.specs.Prelude.{ℕ, ◌+◌, true, List, [], ◌∷◌, ◌++◌, map, Option, None, ◌≡◌, ◌≢◌, ◌<◌, ◌≤◌, Bool, false}
+use Rattle.std.specs.Prelude.{length, Some}
+use Rattle.cweb_lines.specs.Lines.{Place, Line, SourceLine, cut_lines, raws, trimmed, lines_in}
 use Rattle.cweb_lines.specs.Include.{World, found_at, include_name, is_include_line}
 use Rattle.cweb_lines.specs.Change.{at_place, change_code}
-use Rattle.cweb_lines.specs.laws.MergeOutcome.{followed_by, only_fault, only_lines, only_name, placed}
-use Rattle.cweb_lines.specs.laws.MergeOutcome.{MergeOutcome, outcome_of_lines, merge_outcome}
-use Rattle.cweb_lines.specs.declared.change.code.Code.TheVariants.{EndSide as end_side, NewSide as new_side}
+use Rattle.cweb_lines.specs.Events.{Event, emitted_lines, reported_faults, openings, SourceFault, OPEN_FILES}
+use Rattle.cweb_lines.specs.Merge.{started, MergeStateModel, Yields}
+use Rattle.cweb_lines.specs.surface.MergeProgress.{merge}
+use Rattle.cweb_lines.specs.declared.fault.SourceKind.{SourceKind}
+use Rattle.std.specs.List.{list_any}
+use Rattle.std.specs.Option.{is_some}
+use Rattle.std.specs.Str.{bytes_eq}
 use Rattle.cweb_lines.specs.declared.change.code.Code.TheVariants.{OldSide as old_side}
 use Rattle.cweb_lines.specs.declared.fault.SourceKind.TheVariants.{NoMatch, NoName, NotThere, TooDeep}
-use Rattle.cweb_lines.specs.declared.limits.TheConstants.{OPEN_FILES}
+
+-- The trimmed lines of a file. A last line without newline that has only blanks is an empty line.
+abbrev pub lines : List ℕ → List (List ℕ)
+lines text = map (λ line. trimmed line.bytes) (cut_lines text)
+
+-- The lines with their places, the faults, and the names of included files.
+pub record MergeOutcome : Type 0 where
+  pub lines : List Line
+  pub faults : List SourceFault
+  pub included : List (List ℕ)
+
+abbrev pub outcome_of_events : List Event → MergeOutcome
+outcome_of_events events = record {
+  lines = emitted_lines events;
+  faults = reported_faults events;
+  included = openings events;
+}
+
+-- The outcome for a web and a change file, if there is one.
+abbrev pub merge_outcome : World → List ℕ → Option (List ℕ) → MergeOutcome
+merge_outcome world web change = outcome_of_events (merge world (started web change))
+
+abbrev pub placed_line : ℕ → ℕ → List ℕ → Line
+placed_line file number bytes = record { bytes = bytes; place = record { file = record { 0 = file }; line = number } }
+
+-- Lines of a file with their places, from this number on.
+abbrev pub placed : ℕ → ℕ → List (List ℕ) → List Line
+placed file number [] = []
+placed file number (bytes ∷ rest) = placed_line file number bytes ∷ placed file (number + 1) rest
+
+abbrev pub only_lines : List Line → MergeOutcome
+only_lines lines = record { lines = lines; faults = []; included = [] }
+
+abbrev pub followed_by : MergeOutcome → MergeOutcome → MergeOutcome
+followed_by first later = record {
+  lines = first.lines ++ later.lines;
+  faults = first.faults ++ later.faults;
+  included = first.included ++ later.included;
+}
+
+abbrev pub only_name : List ℕ → MergeOutcome
+only_name name = record { lines = []; faults = []; included = name ∷ [] }
+
+abbrev pub only_fault : SourceKind → Place → MergeOutcome
+only_fault kind place = record { lines = []; faults = at_place kind place ∷ []; included = [] }
+
+-- The outcome for lines at a depth, with no change to come and this number of opened files.
+abbrev pub outcome_of_lines : World → ℕ → ℕ → List SourceLine → MergeOutcome
+outcome_of_lines world depth files lines =
+    outcome_of_events (merge world (record {
+      things = raws depth true lines;
+      pending = None;
+      change = [];
+      files =
+          files;
+    }))
+
+-- Some number of steps is enough, and each one that is enough yields the same events.
+pub record IsTheAnswer (world : World) (s : MergeStateModel) : Type 0 where
+  pub events : List Event
+  pub yields : Yields world s events
+  pub only : (others : List Event) → Yields world s others → others ≡ events
+
+abbrev pub HasOneAnswer : Type 0
+HasOneAnswer = (world : World) (s : MergeStateModel) → IsTheAnswer world s
 
 -- A web without include lines and change file merges to its own lines, in order, numbered and without a fault.
 abbrev pub WebsWithoutIncludesAreTheirOwnLines : Type 0
@@ -68,61 +133,6 @@ IncludeLinesAreReplaced = (world : World) (depth files : ℕ) (before after : Li
     → Includes world line.line.bytes name text → depth < OPEN_FILES
     → outcome_of_lines world depth files (before ++ line ∷ after)
     ≡ with_included world depth files before name text after
-
--- One change as its author makes it. In the web: lines that stay, the first old line and further ones. In the change
--- file: a comment, @x, the old lines, @y, the new lines and @z.
-pub record Splice : Type 0 where
-  pub stays : List (List ℕ)
-  pub first : List ℕ
-  pub further : List (List ℕ)
-  pub comment : List (List ℕ)
-  pub begin : List ℕ
-  pub middle : List ℕ
-  pub new : List (List ℕ)
-  pub end : List ℕ
-
--- No other line is a code line, and no line that stays or is new is an include line. The first old line isn't empty and
--- no line before it equals it.
-pub record IsPlainSplice (splice : Splice) : Type 0 where
-  pub begins : change_code splice.begin ≡ Some old_side
-  pub turns : change_code splice.middle ≡ Some new_side
-  pub ends : change_code splice.end ≡ Some end_side
-  pub comment : list_any is_change_code splice.comment ≡ false
-  pub old : list_any is_change_code (splice.first ∷ splice.further) ≡ false
-  pub new : list_any is_change_code splice.new ≡ false
-  pub some : splice.first ≢ []
-  pub first_there : list_any (λ line. bytes_eq line splice.first) splice.stays ≡ false
-  pub stays_plain : list_any is_include_line splice.stays ≡ false
-  pub new_plain : list_any is_include_line splice.new ≡ false
-
--- The lines of the web that has these changes, and then `after`.
-abbrev pub web_lines : List Splice → List (List ℕ) → List (List ℕ)
-web_lines [] after = after
-web_lines (s ∷ splices) after = s.stays ++ (s.first ∷ (s.further ++ web_lines splices after))
-
--- The lines of the change file that has these entries, and then a comment.
-abbrev pub spliced_change_lines : List Splice → List (List ℕ) → List (List ℕ)
-spliced_change_lines [] comment = comment
-spliced_change_lines (s ∷ splices) comment =
-    s.comment ++ (s.begin ∷ s.first
-    ∷ (s.further ++ (s.middle ∷ (s.new ++ (s.end ∷ spliced_change_lines splices comment)))))
-
--- The lines that stay and the new lines, with their places. `web` and `change` number the next lines of both files.
-abbrev pub spliced : ℕ → ℕ → List Splice → List (List ℕ) → List Line
-spliced web change [] after = placed 0 web after
-spliced web change (s ∷ splices) after =
-    let first_new = change + length s.comment + length s.further + 3 in
-    let next_web = web + length s.stays + length s.further + 1 in
-    placed 0 web s.stays
-    ++ (placed 1 first_new s.new ++ spliced next_web (first_new + length s.new + 1) splices after)
-
--- If all entries match in order, the merge has the lines that stay and the new lines, without a fault.
-abbrev pub ChangesSplice : Type 0
-ChangesSplice = (world : World) (web change : List ℕ) (splices : List Splice) (after comment : List (List ℕ))
-    → AllByRecursion IsPlainSplice splices
-    → list_any is_include_line after ≡ false → list_any is_change_code comment ≡ false
-    → lines web ≡ web_lines splices after → lines change ≡ spliced_change_lines splices comment
-    → merge_outcome world web (Some change) ≡ only_lines (spliced 1 1 splices after)
 
 -- A first entry that matches no line of a web without include lines is reported once, at its @x, and changes nothing.
 abbrev pub UnmatchedEntriesAreReported : Type 0

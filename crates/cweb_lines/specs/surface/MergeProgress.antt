@@ -1,38 +1,74 @@
--- How far a merger is, what is to come at its stage, and why it stops.
-use Rattle.std.specs.Prelude.{ℕ, List, [], ◌∷◌, ◌++◌, Option, None, Some, ◌≡◌, ◌+◌, length}
+-- How far a merger is, what is to come at its stage, why it stops, and all events of a merge.
+use Rattle.std.specs.Prelude.{ℕ, List, [], ◌∷◌, ◌++◌, Option, None, Some, ◌≡◌, ◌+◌, length, zero, suc, ◌-◌, unwrap_or}
 use Rattle.cweb_lines.specs.Change.{WaitingEntry}
-use Rattle.cweb_lines.specs.Lines.{SourceLine, Thing, seek, Line}
-use Rattle.cweb_lines.specs.Merge.{new_lines, MergeStateModel}
-use Rattle.cweb_lines.specs.surface.OpenSources.{things_over, things_above, counters_of, lines_at}
-use Rattle.cweb_lines.specs.declared.open_source.stack.Stack.{Stack}
+use Rattle.cweb_lines.specs.Lines.{SourceLine, Thing, seek, Line, CutLine, cut_lines, trimmed, raw}
+use Rattle.cweb_lines.specs.Merge.{new_lines, MergeStateModel, run_steps}
+use Rattle.cweb_lines.specs.surface.OpenSources.{things_over, things_above, counters_of, lines_at, Stop, Stack}
 use Rattle.cweb_lines.specs.declared.change.Change.{Change}
 use Rattle.cweb_lines.specs.declared.change.Stage.{Stage}
 use Rattle.cweb_lines.specs.declared.change.Stage.TheVariants.{Done, Seeking, Waiting, Changing}
 use Rattle.cweb_lines.specs.Events.{Event, took, fault, emitted_lines, reported_faults, openings, taken_lines}
-use Rattle.cweb_lines.specs.Events.{size_of_lines, AreShort}
+use Rattle.cweb_lines.specs.Events.{size_of_lines, AreShort, SourceFault, OPEN_FILES}
 use Rattle.cweb_lines.specs.OpenSources.{TakenCountersModel, RefusesLine}
-use Rattle.cweb_lines.specs.declared.fault.SourceFault.{SourceFault}
 use Rattle.cweb_lines.specs.declared.fault.SourceKind.{SourceKind}
 use Rattle.cweb_lines.specs.declared.fault.SourceKind.TheVariants.{NoOldLines, EndedBeforeY, EndedBeforeZ, NoMatch}
-use Rattle.cweb_lines.specs.declared.stop.Stop.{Stop}
-use Rattle.cweb_lines.specs.surface.EnoughSteps.{merge}
 use Rattle.cweb_lines.specs.surface.OpenedFileNames.{world_in, opened_file_names}
-use Rattle.cweb_lines.specs.declared.merge_state.MergeState.{MergeState}
+pub use Rattle.cweb_lines.specs.declared.merge_state.MergeState.{MergeState}
 use Rattle.cweb_lines.specs.declared.stop.Stop.TheVariants.{ReadFault, LineTooLong, TooMuchText, Memory}
+use Rattle.cweb_lines.specs.Include.{World, Found, include_name, found_at}
+
+-- The steps of the lines of a file, by those of a line.
+abbrev pub steps_of_lines : (List ℕ → ℕ) → List CutLine → ℕ
+steps_of_lines steps [] = 0
+steps_of_lines steps (line ∷ lines) = steps (trimmed line.bytes) + steps_of_lines steps lines
+
+abbrev pub steps_of_file : (List ℕ → ℕ) → Option Found → ℕ
+steps_of_file steps None = 0
+steps_of_file steps (Some found) = steps_of_lines steps (cut_lines found.1)
+
+-- A raw line takes one step, and those of the file that it may include. Files nest at most this deep.
+abbrev pub steps_of_line : ℕ → World → List ℕ → ℕ
+steps_of_line zero world bytes = 1
+steps_of_line (suc depth) world bytes =
+    1 + steps_of_file (λ line. steps_of_line depth world line) (found_at world (include_name bytes))
+
+abbrev pub steps_of_things : World → List Thing → ℕ
+steps_of_things world [] = 0
+steps_of_things world (raw r ∷ things) =
+    steps_of_line (OPEN_FILES - r.depth) world r.source.line.bytes + steps_of_things world things
+steps_of_things world (thing ∷ things) = 1 + steps_of_things world things
+
+-- A line of the change file may become a raw line, or is skipped and reported.
+abbrev pub steps_of_change : World → List SourceLine → ℕ
+steps_of_change world [] = 0
+steps_of_change world (line ∷ lines) =
+    2 + steps_of_line OPEN_FILES world line.line.bytes + steps_of_change world lines
+
+-- After a waiting entry its end may be reported, and the next entry is sought.
+abbrev pub steps_of_entry : Option WaitingEntry → ℕ
+steps_of_entry None = 0
+steps_of_entry (Some entry) = 2
+
+-- At least as many steps as are left.
+abbrev pub enough_steps : World → MergeStateModel → ℕ
+enough_steps world s =
+    1 + steps_of_things world s.things + steps_of_entry s.pending + steps_of_change world s.change
+
+-- All events from a state on. Nothing rests on the number of steps: by `merge_has_one_answer` any number that is
+-- enough yields the same.
+unfoldable pub merge : World → MergeStateModel → List Event
+merge world s = unwrap_or (run_steps (enough_steps world s) world s) []
 
 -- The entry that waits, with its first old line.
 abbrev pub pending_in : Stage → List ℕ → Option WaitingEntry
-pending_in Done first = None
-pending_in Seeking first = None
 pending_in (Waiting begin) first = Some (record { begin = begin; first = first })
-pending_in (Changing change) first = None
+pending_in _ first = None
 
 -- The lines of the change file after the entry whose new lines are taken.
 abbrev pub change_in : Stage → List SourceLine → List SourceLine
 change_in Done lines = []
-change_in Seeking lines = lines
-change_in (Waiting begin) lines = lines
 change_in (Changing change) lines = (new_lines change.depth change.begin lines).rest
+change_in _ lines = lines
 
 -- The rest of the new side, the search for the next entry, and the sources below the change.
 abbrev pub things_below : {R : Type 0} → (R → List ℕ) → Change → List SourceLine → Stack R → List Thing
@@ -41,11 +77,10 @@ things_below left change lines stack = (new_lines change.depth change.begin line
 
 -- All things to come. `lines` are the remaining lines of the change file.
 abbrev pub things_in : {R : Type 0} → (R → List ℕ) → Stage → List SourceLine → Stack R → List Thing
-things_in left Done lines stack = things_above left 0 stack []
 things_in left Seeking lines stack = seek ∷ things_above left 0 stack []
-things_in left (Waiting begin) lines stack = things_above left 0 stack []
 things_in left (Changing change) lines stack = things_above left change.below stack
     (things_below left change lines stack)
+things_in left _ lines stack = things_above left 0 stack []
 
 -- What was reported and taken so far.
 pub record SoFar : Type 0 where

@@ -3,21 +3,15 @@ use Rattle.std.specs.Prelude.{ℕ, List, ◌≡◌, ◌≤◌, ◌<◌, ◌+◌,
 use Rattle.std.specs.Prelude.{OnErr}
 use Rattle.cweb_lines.specs.surface.OpenedFileNames.{opened_file_names, IsOneLine}
 use Rattle.cweb_lines.specs.surface.OpenSources.{IsReaderNamed, AreReadersNamed, BlamesFile, ReadsShelf, name_of_file}
-use Rattle.cweb_lines.specs.surface.OpenSources.{StopsReading, files_named}
-use Rattle.cweb_lines.specs.declared.merge_state.MergeState.{MergeState}
+use Rattle.cweb_lines.specs.surface.OpenSources.{StopsReading, files_named, Stop, WebNotOpened, ChangeNotOpened, Memory}
+use Rattle.cweb_lines.specs.surface.MergeProgress.{MergeState, SoFar, EmitsLines, KeepsReported, NothingLeft, Stopped}
+use Rattle.cweb_lines.specs.surface.MergeProgress.{ReportsPrefix, so_far_of, events_to_come, merge}
 use Rattle.cweb_files.specs.Shelves.{ShelfContents, ShelfModel}
-use Rattle.cweb_files.specs.declared.place.Place.{Place}
+use Rattle.cweb_lines.specs.Lines.{Place, Line}
 use Rattle.cweb_lines.specs.Include.{names_found, contents_found, World, Found}
-use Rattle.cweb_lines.specs.Lines.{Line}
-use Rattle.cweb_lines.specs.Events.{Event, emitted_lines}
+use Rattle.cweb_lines.specs.Events.{Event, emitted_lines, LINES, BYTES}
 use Rattle.cweb_lines.specs.Merge.{started}
-use Rattle.cweb_lines.specs.surface.MergeProgress.{SoFar, EmitsLines, KeepsReported, NothingLeft, Stopped}
-use Rattle.cweb_lines.specs.surface.MergeProgress.{ReportsPrefix, so_far_of, events_to_come}
-use Rattle.cweb_lines.specs.surface.EnoughSteps.{merge}
-use Rattle.cweb_lines.specs.declared.limits.TheConstants.{LINES, BYTES}
 use Rattle.cweb_lines.specs.declared.merger.Merger.{Merger}
-use Rattle.cweb_lines.specs.declared.stop.Stop.{Stop}
-use Rattle.cweb_lines.specs.declared.stop.Stop.TheVariants.{WebNotOpened, ChangeNotOpened, Memory}
 
 -- Each reader, that of the change file included, was opened under the name of its file.
 pub record AreReadersKnown {R : Type 0} (opened_as : R → List ℕ) (run : MergeState R) : Type 0 where

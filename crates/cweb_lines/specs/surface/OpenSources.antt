@@ -3,11 +3,11 @@ use Rattle.std.specs.Prelude.{ℕ, List, slice_range, ◌≡◌, zero, suc, ◌+
 use Rattle.std.specs.Prelude.{Result, Ok, Err, slice_index_or, ◌∷◌, option_map}
 use Rattle.cweb_lines.specs.declared.source.Source.{Source}
 use Rattle.cweb_lines.specs.Lines.{SourceLine, numbered_lines, cut_lines, Thing, raws}
-use Rattle.cweb_lines.specs.declared.open_source.stack.Stack.{Stack}
-use Rattle.cweb_lines.specs.declared.stop.Stop.{Stop}
-use Rattle.cweb_lines.specs.declared.stop.Stop.TheVariants.{WebNotOpened, ChangeNotOpened, ReadFault, LineTooLong}
-use Rattle.cweb_lines.specs.declared.stop.Stop.TheVariants.{TooMuchText, Memory}
-use Rattle.cweb_lines.specs.declared.open_source.OpenSource.{OpenSource}
+pub use Rattle.cweb_lines.specs.declared.open_source.stack.Stack.{Stack}
+pub use Rattle.cweb_lines.specs.declared.stop.Stop.{Stop}
+pub use Rattle.cweb_lines.specs.declared.stop.Stop.TheVariants.{WebNotOpened, ChangeNotOpened, ReadFault, LineTooLong}
+pub use Rattle.cweb_lines.specs.declared.stop.Stop.TheVariants.{TooMuchText, Memory, WriteFault}
+pub use Rattle.cweb_lines.specs.declared.open_source.OpenSource.{OpenSource}
 use Rattle.cweb_files.specs.Shelves.{ShelfContents, ShelfModel}
 use Rattle.cweb_files.specs.declared.place.FileId.{FileId}
 use Rattle.cweb_lines.specs.OpenSources.{TakenCountersModel}

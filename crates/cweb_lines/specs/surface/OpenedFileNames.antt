@@ -1,5 +1,6 @@
 -- The names of opened files, the folder of included files, and single lines.
 use Rattle.std.specs.Prelude.{ℕ, List, map, string_bytes, Option, None, Some, String, ◌≢◌, ◌≤◌, [], ◌∷◌, length}
+use Rattle.std.specs.List.{AllByRecursion}
 use Rattle.cweb_lines.specs.declared.files.FileNames.{FileNames}
 use Rattle.cweb_lines.specs.Include.{World}
 use Rattle.cweb_lines.specs.declared.limits.TheConstants.{LINE_LENGTH}
@@ -18,8 +19,7 @@ world_in texts inputs = record { texts = texts; inputs = optional_string_bytes i
 
 -- Lines without newline.
 abbrev pub HasNoNewline : List ℕ → Type 0
-HasNoNewline [] = Unit {0}
-HasNoNewline (b ∷ bs) = (b ≢ 10) × HasNoNewline bs
+HasNoNewline bytes = AllByRecursion (λ b. b ≢ 10) bytes
 
 -- A line that was taken: it has no newline and is within the maximum length.
 pub record IsOneLine (bytes : List ℕ) : Type 0 where

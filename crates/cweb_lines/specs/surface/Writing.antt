@@ -1,6 +1,6 @@
 -- How far the output of a merge is, and why it stops.
-use Rattle.std.specs.Prelude.{◌≡◌, ◌≤◌, ◌+◌, ℕ, List, [], ◌∷◌, ◌++◌, length, Option, None, Some, Result, Err}
-use Rattle.std.specs.Prelude.{IfErr, IfSome, OnErr, OnOk}
+use Rattle.std.specs.Prelude.{◌≡◌, ◌≤◌, ◌+◌, ℕ, List, [], ◌∷◌, ◌++◌, length, Option, None, Some, Result, Err, IfErr}
+use Rattle.std.specs.Prelude.{IfSome, OnErr, OnOk}
 use Rattle.cweb_files.specs.Sinks.{FailsWithin, SinkModel, written}
 use Rattle.cweb_files.specs.surface.Writes.{Prints, WritesPrefix}
 use Rattle.cweb_files.specs.Shelves.{Observed}
@@ -8,13 +8,12 @@ use Rattle.cweb_files.specs.declared.device.Shelf.{Ghosts as Shelf}
 use Rattle.cweb_files.specs.declared.device.Sink.{Ghosts as Sink}
 use Rattle.cweb_lines.specs.Lines.{Line}
 use Rattle.cweb_lines.specs.Events.{Event, emitted_lines, written_lines}
-use Rattle.cweb_lines.specs.surface.MergeProgress.{SoFar, EmitsLines, StopsAfterLines}
-use Rattle.cweb_lines.specs.surface.MergeProgress.{ReadFailsAfterLines, ReportsPrefix}
-use Rattle.cweb_lines.specs.surface.OpenSources.{files_named, ReadsShelf}
+use Rattle.cweb_lines.specs.surface.MergeProgress.{SoFar, EmitsLines, StopsAfterLines, ReadFailsAfterLines}
+use Rattle.cweb_lines.specs.surface.MergeProgress.{ReportsPrefix}
+use Rattle.cweb_lines.specs.surface.OpenSources.{files_named, ReadsShelf, Stop}
 use Rattle.cweb_lines.specs.surface.MergerCalls.{Grows, HasEnded, KnowsReaders, StaysKnown, lines_to_come, so_far}
 use Rattle.cweb_lines.specs.surface.MergerCalls.{stop_in, to_come}
 use Rattle.cweb_lines.specs.declared.merger.Merger.{Merger}
-use Rattle.cweb_lines.specs.declared.stop.Stop.{Stop}
 use Rattle.cweb_lines.specs.declared.stop.Stop.TheVariants.{ReadFault, LineTooLong, TooMuchText, Memory, WriteFault}
 
 -- This text was written to a sink.

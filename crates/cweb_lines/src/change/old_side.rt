@@ -1,25 +1,21 @@
 // The old side of a change: its further old lines, and the raw lines that they replace.
 ghost use Rattle.cweb_files.specs.Shelves.{Observed};
-ghost use Rattle.std.specs.Prelude.{◌≡◌, ◌≤◌, ◌<◌, ◌+◌, ◌^◌, ◌++◌, [], length, IfOk, IfErr};
-ghost use Rattle.std.specs.Prelude.{OnOk, OnErr};
-ghost use Rattle.cweb_lines.specs.inner.StepCalls.{GoesOn, Reads, TakesAway, outcome};
-ghost use Rattle.cweb_lines.specs.inner.StepCalls.{OnlyTakes, OnlyReports};
+ghost use Rattle.std.specs.Prelude.{◌≡◌, ◌≤◌, ◌<◌, ◌+◌, ◌^◌, ◌++◌, [], length, IfOk, IfErr, OnOk, OnErr};
+ghost use Rattle.cweb_lines.specs.inner.StepCalls.{GoesOn, Reads, TakesAway, outcome, OnlyTakes, OnlyReports};
 ghost use Rattle.cweb_lines.specs.Merge.{change_events, closing_faults, fault_if};
 ghost use Rattle.cweb_lines.specs.surface.OpenSources.{counters_of, StopsFor, things_above};
 ghost use Rattle.cweb_lines.specs.surface.MergeProgress.{ReportsPrefix, change_lines, things_of, so_far_of};
 ghost use Rattle.cweb_lines.specs.surface.OpenedFileNames.{opened_file_names};
-ghost use Rattle.cweb_lines.specs.inner.ChangeProgress.{Compares, IsChanged, IsReplaced};
-ghost use Rattle.cweb_lines.specs.inner.ChangeProgress.{old_side_of, ReportsFaultPrefix};
-ghost use Rattle.cweb_lines.specs.inner.ChangeProgress.{StopsOldSide};
+ghost use Rattle.cweb_lines.specs.inner.MergeProgress.{Compares, IsChanged, IsReplaced, old_side_of};
+ghost use Rattle.cweb_lines.specs.inner.MergeProgress.{ReportsFaultPrefix, StopsOldSide};
 ghost use Rattle.cweb_lines.specs.inner.Stages.{floor_of};
 ghost use Rattle.cweb_lines.specs.inner.OpenSources.{TopStops};
 
 use crate::change::code::{Code, change_code};
 use crate::change::{Change, Stage};
-use crate::fault::SourceKind;
 use crate::merge_state::MergeState;
 use crate::step::progress::{take_change, take_raw};
-use crate::stop::Stop;
+use crate::{SourceKind, Stop};
 use cweb_files::{Place, Shelf};
 use std::mem::swap;
 

@@ -8,16 +8,15 @@ ghost use Rattle.cweb_lines.specs.Lines.{SourceLine};
 ghost use Rattle.cweb_lines.specs.surface.MergeProgress.{change_lines, so_far_of};
 ghost use Rattle.cweb_lines.specs.Events.{reported_faults};
 ghost use Rattle.cweb_lines.specs.surface.OpenedFileNames.{opened_file_names};
-ghost use Rattle.cweb_lines.specs.inner.ChangeProgress.{BegunKnown, LooksAt, LooksKnown, Searched};
-ghost use Rattle.cweb_lines.specs.inner.ChangeProgress.{LooksInPart, begun_outside, faults_outside};
+ghost use Rattle.cweb_lines.specs.inner.MergeProgress.{BegunKnown, LooksAt, LooksKnown, Searched};
+ghost use Rattle.cweb_lines.specs.inner.MergeProgress.{LooksInPart, begun_outside, faults_outside};
 ghost use Rattle.cweb_lines.specs.surface.MergerCalls.{StopsThere};
 
 use crate::change::Stage;
 use crate::change::code::{Code, change_code};
-use crate::fault::SourceKind;
 use crate::merge_state::MergeState;
 use crate::step::progress::take_change;
-use crate::stop::Stop;
+use crate::{SourceKind, Stop};
 use cweb_files::{Place, Shelf};
 use std::mem::swap;
 

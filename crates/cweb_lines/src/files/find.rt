@@ -1,10 +1,10 @@
 // How the web, the change file and included files are found.
-ghost use Rattle.std.specs.Prelude.{◌≡◌, ◌∷◌, ◌++◌, IfOk, string_bytes};
-ghost use Rattle.std.specs.Option.{option_copied};
-ghost use Rattle.cweb_lines.specs.Include.{found_at, found_under, web_at, change_at};
+ghost use Rattle.std.specs.Prelude.{◌≡◌, ◌∷◌, ◌++◌, IfOk, IfSome, string_bytes, option_map, option_and_then};
+ghost use Rattle.std.specs.Option.{option_copied, option_or};
+ghost use Rattle.cweb_lines.specs.Include.{found_at, found_under, change_at};
 ghost use Rattle.cweb_files.specs.Shelves.{Observed};
-ghost use Rattle.cweb_lines.specs.inner.Finding.{changes_found, FindsFile, IsChangeOpened};
-ghost use Rattle.cweb_lines.specs.surface.OpenedFileNames.{world_in};
+ghost use Rattle.cweb_lines.specs.inner.Finding.{found_as, FindsFile, IsOpened};
+ghost use Rattle.cweb_lines.specs.surface.OpenedFileNames.{optional_string_bytes, world_in};
 
 use cweb_files::Shelf;
 use std::alloc::{AllocError, Global};
@@ -26,13 +26,41 @@ fn fetch_named<S: Shelf>(shelf: &mut S, name: String) -> Result<Option<Opening<S
     }
 }
 
-fn in_folder(alloc: Global, folder: &str, name: &str) -> Result<String, AllocError>
-    ensures { IfOk result (λ path. string_bytes path ≡ folder.now ++ 47 ∷ name.now) }
+/// Finds a file under the first name, else under the second one.
+pub fn fetch_either<S: Shelf>(
+    shelf: &mut S,
+    first: String,
+    second: Option<String>,
+) -> Result<Option<Opening<S::R>>, AllocError>
+    ensures { FindsFile (S.model shelf.old) (S.model shelf.new)
+        (λ seen. option_or (found_under seen.texts (string_bytes first))
+        (option_and_then (found_under seen.texts) (optional_string_bytes second))) result }
 {
-    let mut path = String::from_str(alloc, folder)?;
+    let Some(opening) = fetch_named(shelf, first)? else {
+        let Some(second) = second else {
+            return Ok(None);
+        };
+        return fetch_named(shelf, second);
+    };
+    Ok(Some(opening))
+}
+
+// The path of a name in the folder `inputs`, if there is one.
+fn in_folder(
+    alloc: Global,
+    inputs: &Option<String>,
+    name: &str,
+) -> Result<Option<String>, AllocError>
+    ensures { IfOk result (λ path. optional_string_bytes path
+        ≡ option_map (λ folder. folder ++ 47 ∷ name.now) (optional_string_bytes inputs.now)) }
+{
+    let Some(folder) = inputs else {
+        return Ok(None);
+    };
+    let mut path = String::from_str(alloc, folder.as_str())?;
     path.push_str("/")?;
     path.push_str(name)?;
-    Ok(path)
+    Ok(Some(path))
 }
 
 /// Finds the file of an include line: under its name, else in the folder `inputs`. A name that isn't UTF-8 finds none.
@@ -48,32 +76,18 @@ pub fn find<S: Shelf>(
     let Ok(name) = str::from_utf8(name) else {
         return Ok(None);
     };
-    let Some(opening) = fetch_named(shelf, String::from_str(alloc, name)?)? else {
-        let Some(folder) = inputs else {
-            return Ok(None);
-        };
-        return fetch_named(shelf, in_folder(alloc, folder.as_str(), name)?);
-    };
-    Ok(Some(opening))
+    let second = in_folder(alloc, inputs, name)?;
+    fetch_either(shelf, String::from_str(alloc, name)?, second)
 }
 
-/// Finds the web under its name, else under the second name.
-pub fn find_web<S: Shelf>(
-    alloc: Global,
-    shelf: &mut S,
-    web: &str,
-    second: Option<&str>,
-) -> Result<Option<Opening<S::R>>, AllocError>
-    ensures { FindsFile (S.model shelf.old) (S.model shelf.new)
-        (λ seen. web_at seen.texts web.now (option_copied second.entry)) result }
+/// A copy of a name, if there is one.
+pub fn owned(alloc: Global, name: Option<&str>) -> Result<Option<String>, AllocError>
+    ensures { IfOk result (λ owned. optional_string_bytes owned ≡ option_copied name.entry) }
 {
-    let Some(opening) = fetch_named(shelf, String::from_str(alloc, web)?)? else {
-        let Some(second) = second else {
-            return Ok(None);
-        };
-        return fetch_named(shelf, String::from_str(alloc, second)?);
-    };
-    Ok(Some(opening))
+    match name {
+        Some(name) => Ok(Some(String::from_str(alloc, name)?)),
+        None => Ok(None),
+    }
 }
 
 /// Finds the change file. `Some(None)` means that none is named, and `None` that the named file isn't there.
@@ -84,16 +98,14 @@ pub fn find_change<S: Shelf>(
 ) -> Result<Option<Option<Opening<S::R>>>, AllocError>
     ensures same { S.model shelf.new ≡ S.model shelf.old }
     ensures opened { Observed (S.model shelf.old) (λ seen.
-        IfOk result (IsChangeOpened seen.opened_as)) }
+        IfOk result (λ found. IfSome found (IsOpened seen.opened_as))) }
     ensures found { Observed (S.model shelf.old) (λ seen.
-        IfOk result (λ opened. changes_found seen.left opened
+        IfOk result (λ found. option_map (found_as seen.left) found
         ≡ change_at seen.texts (option_copied change.entry))) }
 {
     let Some(name) = change else {
         return Ok(Some(None));
     };
-    match fetch_named(shelf, String::from_str(alloc, name)?)? {
-        Some(opening) => Ok(Some(Some(opening))),
-        None => Ok(None),
-    }
+    let opening = fetch_named(shelf, String::from_str(alloc, name)?)?;
+    Ok(opening.map(|opening| Some(opening)))
 }

@@ -6,10 +6,9 @@ ghost use Rattle.cweb_lines.specs.surface.MergeProgress.{pending_in};
 ghost use Rattle.cweb_lines.specs.declared.counters.TakenCounters.{TakenCounters};
 
 use crate::change::Stage;
-use crate::merger::Merger;
 use crate::open_source::OpenSource;
-use crate::passing::line_span::LineSpan;
 use crate::passing::stretch::{Stretch, line_from};
+use crate::{LineSpan, Merger};
 use cweb_files::{Place, Shelf};
 
 /// Next lines that were not taken yet: the last of them, and all of them.
@@ -33,7 +32,7 @@ impl<S: Shelf> Merger<S> {
         if let Some(_) = self.run.stopped {
             return None;
         }
-        let stretch = self.run.stretch(0)?;
+        let stretch = self.run.first_passing()?;
         let line = self.run.line_at(stretch)?;
         Some(Ahead { line, stretch })
     }
@@ -71,7 +70,7 @@ impl<S: Shelf> Merger<S> {
 
 // The line of a source after these ones.
 #[inline(always)]
-fn line_after<R: Drop>(
+pub(crate) fn line_after<R: Drop>(
     text: &OpenSource<R>,
     stage: Stage,
     first: &[u8],
@@ -89,9 +88,7 @@ fn line_after<R: Drop>(
     if before.end >= text.source.lines_end {
         return None;
     }
-    let Some(next) = line_from(&text.source, before.end, stage, first, text.may_match) else {
-        return None;
-    };
+    let next = line_from(&text.source, before.end, stage, first, text.may_match)?;
     Some(Ahead {
         line: LineSpan {
             place: Place {

@@ -1,36 +1,31 @@
 // The stack of open sources, the deepest last.
-ghost use Rattle.std.specs.Prelude.{◌≡◌, ◌≤◌, ◌<◌, ◌+◌, ◌-◌, ◌^◌, ℕ, ◌∷◌, replicate, IfOk};
-ghost use Rattle.std.specs.Prelude.{IfErr, None, Some, slice_set, slice_index_or};
+ghost use Rattle.std.specs.Prelude.{◌≡◌, ◌≤◌, ◌<◌, ◌+◌, ◌-◌, ◌^◌, ℕ, ◌∷◌, replicate, IfOk, IfErr, None, Some};
+ghost use Rattle.std.specs.Prelude.{slice_set, slice_index_or};
 ghost use Rattle.cweb_files.specs.Shelves.{Observed};
 ghost use Rattle.cweb_lines.specs.inner.LineCalls.{ClosesAbove, ClosesTop, TakesFromStack};
 ghost use Rattle.cweb_lines.specs.surface.OpenSources.{counters_of, StopsFor};
 ghost use Rattle.cweb_lines.specs.declared.limits.TheConstants.{OPEN_FILES};
-ghost use Rattle.cweb_lines.specs.inner.OpenSources.{maximum_of, line_number, files_up_to, AreDeep};
-ghost use Rattle.cweb_lines.specs.inner.OpenSources.{TakesTop, TakesAbove, NeedsRead, StopsTop};
-ghost use Rattle.cweb_lines.specs.inner.OpenSources.{StopsAbove, StaysBelow, Pushes};
+ghost use Rattle.cweb_lines.specs.inner.OpenSources.{maximum_of, line_number, files_up_to, AreDeep, TakesTop};
+ghost use Rattle.cweb_lines.specs.inner.OpenSources.{TakesAbove, NeedsRead, StopsTop, StopsAbove, StaysBelow, Pushes};
 
-use crate::buffer_pool::BufferPool;
 use crate::counters::TakenCounters;
 use crate::limits::OPEN_FILES;
 use crate::open_source::take::take_from;
 use crate::open_source::{LineAt, OpenSource};
 use crate::stop::Stop;
 use cweb_files::Shelf;
-use std::alloc::Global;
 
 /// The web and the files that are open within it. The source at index `depth - 1` is being read.
 #[derive(Drop)]
 pub struct Stack<R: Drop> {
     pub texts: [Option<OpenSource<R>>; OPEN_FILES],
     pub depth: usize,
-    /// The buffers of closed files.
-    pub buffers: BufferPool,
 }
 
 impl<R: Drop> Stack<R> {
     /// A stack with the web alone.
     #[rattlefmt::skip]
-    pub fn new(alloc: Global, text: OpenSource<R>) -> Self
+    pub fn new(text: OpenSource<R>) -> Self
         ensures depth { result.depth ≡ 1 }
         ensures numbers { maximum_of line_number result.texts ≤ text.line }
         ensures files { maximum_of files_up_to result.texts ≤ text.file.0 + 1 }
@@ -43,7 +38,6 @@ impl<R: Drop> Stack<R> {
                 None, None, None, None, None, None, None, None, None, None,
             ],
             depth: 1,
-            buffers: BufferPool::new(alloc),
         }
     }
 
@@ -60,16 +54,6 @@ impl<R: Drop> Stack<R> {
     {
         self.texts[self.depth] = Some(text);
         self.depth += 1;
-    }
-
-    // Closes a source that has no more lines and returns its buffer to the pool.
-    fn close(&mut self, place: usize)
-        requires { place < OPEN_FILES }
-        ensures texts { self.new.texts ≡ slice_set self.old.texts place None }
-    {
-        if let Some(text) = self.texts[place].take() {
-            self.buffers.keep(text.source.into_buffer());
-        }
     }
 }
 
@@ -100,7 +84,7 @@ fn take_top<S: Shelf>(
 {
     let top = stack.depth - 1;
     let Some(at) = take_from(shelf, &mut stack.texts[top], limits, line)? else {
-        stack.close(top);
+        stack.texts[top] = None;
         stack.depth = top;
         return Ok(None);
     };

@@ -1,23 +1,19 @@
 // The next line of an open source, trimmed of trailing blanks.
-ghost use Rattle.std.specs.Prelude.{◌≡◌, ◌≤◌, ◌<◌, ◌+◌, ◌^◌, ℕ, length, take, IfOk, IfErr};
-ghost use Rattle.std.specs.Prelude.{IfSome, OnSome, Some};
+ghost use Rattle.std.specs.Prelude.{◌≡◌, ◌≤◌, ◌<◌, ◌+◌, ◌^◌, ℕ, length, take, IfOk, IfErr, IfSome, OnSome, Some};
 ghost use Rattle.cweb_files.specs.Shelves.{Observed};
-ghost use Rattle.cweb_lines.specs.inner.LineCalls.{TakesFromSlot};
-ghost use Rattle.cweb_lines.specs.inner.Source.{bytes_left, FailsInLine, ReadsSource};
-ghost use Rattle.cweb_lines.specs.inner.Source.{TakesTrimmedOrEnds};
+ghost use Rattle.cweb_lines.specs.inner.LineCalls.{TakesFromSlot, bytes_left, FailsInLine, ReadsSource};
+ghost use Rattle.cweb_lines.specs.inner.LineCalls.{TakesTrimmedOrEnds};
 ghost use Rattle.cweb_lines.specs.Lines.{trimmed};
 ghost use Rattle.cweb_lines.specs.surface.OpenedFileNames.{IsOneLine};
 ghost use Rattle.cweb_lines.specs.Lines as spec;
 ghost use Rattle.cweb_lines.specs.surface.OpenSources.{number_or_zero};
-ghost use Rattle.cweb_lines.specs.inner.OpenSources.{line_number, DeepAt, NamesFile};
-ghost use Rattle.cweb_lines.specs.inner.OpenSources.{stop_for, newline_bytes};
+ghost use Rattle.cweb_lines.specs.inner.OpenSources.{line_number, DeepAt, NamesFile, stop_for, newline_bytes};
 
 use crate::counters::TakenCounters;
 use crate::cut::next_line;
-use crate::limits::LINE_LENGTH;
 use crate::open_source::{LineAt, OpenSource};
 use crate::source::{LineFault, LineTermination, Source};
-use crate::stop::Stop;
+use crate::{LINE_LENGTH, Stop};
 use cweb_files::{FileId, Place, Shelf};
 
 fn is_blank(b: u8) -> bool

@@ -1,10 +1,9 @@
 // Lines that pass through are taken and counted.
 ghost use Rattle.std.specs.Prelude.{◌≡◌, ◌≤◌, ◌<◌, ◌+◌, ℕ, List, Option, length};
 ghost use Rattle.cweb_lines.specs.Change.{WaitingEntry};
-ghost use Rattle.cweb_lines.specs.inner.Passing.{ComesNext, EmitsBufferedLines, HasRoomFor, KeepsLevel};
-ghost use Rattle.cweb_lines.specs.inner.Passing.{KeepsTop, PassesSlot, PassesTop, IsStretchAt};
-ghost use Rattle.cweb_lines.specs.inner.Passing.{IsStretchOf, lines_next, buffer_of, with_newlines};
-ghost use Rattle.cweb_lines.specs.inner.Passing.{top_of};
+ghost use Rattle.cweb_lines.specs.inner.Passing.{ComesNext, EmitsBufferedLines, HasRoomFor, KeepsLevel, KeepsTop};
+ghost use Rattle.cweb_lines.specs.inner.Passing.{PassesSlot, PassesTop, IsStretchAt, IsStretchOf, lines_next};
+ghost use Rattle.cweb_lines.specs.inner.Passing.{buffer_of, with_newlines, top_of};
 ghost use Rattle.cweb_lines.specs.inner.OpenSources.{line_number, maximum_of};
 ghost use Rattle.cweb_lines.specs.surface.OpenSources.{number_or_zero};
 ghost use Rattle.cweb_lines.specs.declared.limits.TheConstants.{OPEN_FILES};

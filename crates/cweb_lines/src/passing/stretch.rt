@@ -1,8 +1,7 @@
-// How many buffered lines pass through at once.
+// Which buffered lines pass through.
 ghost use Rattle.std.specs.Prelude.{◌≡◌, ◌≤◌, ◌+◌, ◌-◌, ℕ, List, IfSome, OnSome};
 ghost use Rattle.cweb_lines.specs.inner.Ahead.{FitsLimits, FitsLimitsAt};
-ghost use Rattle.cweb_lines.specs.inner.Passing.{Reaches, IsStretchOf, ComesNext, HasRoomFor};
-ghost use Rattle.cweb_lines.specs.inner.Passing.{OnlyLastExceeds, stretch_bytes, top_of};
+ghost use Rattle.cweb_lines.specs.inner.Passing.{Reaches, IsStretchOf, ComesNext, HasRoomFor, stretch_bytes, top_of};
 ghost use Rattle.cweb_lines.specs.surface.MergeProgress.{pending_in};
 ghost use Rattle.cweb_lines.specs.declared.limits.TheConstants.{LINES};
 
@@ -59,9 +58,7 @@ pub(crate) fn line_from<R: Drop>(
     ensures one { IfSome result (λ s. s.lines ≡ 1) }
 {
     let pending = &source.buffer[start..source.end];
-    let Some(at) = newline_at(pending) else {
-        return None;
-    };
+    let at = newline_at(pending)?;
     if at > LINE_LENGTH {
         return None;
     }
@@ -81,62 +78,32 @@ pub(crate) fn line_from<R: Drop>(
     })
 }
 
-// The next lines of a source that pass through, until they have `room` bytes. Only the last may have trailing blanks.
+// The next line of an open source, unless its buffer might exceed a limit.
 #[inline(always)]
-fn stretch_from<R: Drop>(
-    source: &Source<R>,
-    stage: Stage,
-    first: &[u8],
-    may_match: bool,
-    room: usize,
-) -> Option<Stretch>
-    requires { source.now.end - source.now.start ≤ LINES }
-    ensures lines { IfSome result (λ s. (found : Reaches (pending_in stage first.now) may_match
-        source.now.buffer.items source.now.start source.now.end s) × OnlyLastExceeds room found.0) }
-{
-    if source.start >= source.lines_end {
-        return None;
-    }
-    let mut stretch = line_from(source, source.start, stage, first, may_match)?;
-    'lines: while stretch.text + 1 == stretch.end
-        && stretch.end < source.lines_end
-        && stretch.end - source.start < room
-    {
-        let Some(next) = line_from(source, stretch.end, stage, first, may_match) else {
-            break 'lines;
-        };
-        stretch = stretch.then(next);
-    }
-    Some(stretch)
-}
-
-// The next lines of an open source, unless its buffer might exceed a limit.
-#[inline(always)]
-fn stretch_of<R: Drop>(
+fn first_of<R: Drop>(
     text: &OpenSource<R>,
     stage: Stage,
     first: &[u8],
     limits: &TakenCounters,
-    room: usize,
 ) -> Option<Stretch>
     ensures lines { IfSome result (λ s. (lines : List (List ℕ))
-        × IsStretchOf (pending_in stage first.now) text.now s lines × HasRoomFor limits.now lines
-        × OnlyLastExceeds room lines) }
+        × IsStretchOf (pending_in stage first.now) text.now s lines × HasRoomFor limits.now lines) }
+    ensures one { IfSome result (λ s. s.lines ≡ 1) }
     ensures fits { OnSome result (FitsLimits limits.now text.now) }
 {
     let source = &text.source;
-    if !limits.has_room(source.end - source.start) {
+    if !limits.has_room(source.end - source.start) || source.start >= source.lines_end {
         return None;
     }
-    stretch_from(source, stage, first, text.may_match, room)
+    line_from(source, source.start, stage, first, text.may_match)
 }
 
 impl<R: Drop> MergeState<R> {
-    /// The next lines that pass through, until they have `room` bytes, but at least one. `None` is always allowed.
+    /// The next line, if it passes through. `None` is always allowed.
     #[inline(always)]
-    pub fn stretch(&self, room: usize) -> Option<Stretch>
-        ensures lines { IfSome result (λ s. (lines : List (List ℕ)) × ComesNext self.now s lines
-            × OnlyLastExceeds room lines) }
+    pub fn first_passing(&self) -> Option<Stretch>
+        ensures lines { IfSome result (λ s. (lines : List (List ℕ)) × ComesNext self.now s lines) }
+        ensures one { IfSome result (λ s. s.lines ≡ 1) }
         ensures fits { OnSome result (FitsLimitsAt self.now.limits (top_of self.now.stack)) }
     {
         if let Stage::Seeking = self.stage {
@@ -146,7 +113,7 @@ impl<R: Drop> MergeState<R> {
             return None;
         }
         match &self.stack.texts[self.stack.depth - 1] {
-            Some(text) => stretch_of(text, self.stage, &self.first, &self.limits, room),
+            Some(text) => first_of(text, self.stage, &self.first, &self.limits),
             None => None,
         }
     }

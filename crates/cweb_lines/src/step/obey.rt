@@ -1,25 +1,24 @@
 // Lines that begin no change: include lines are obeyed, and others are emitted.
 ghost use Rattle.std.specs.Prelude.{◌≡◌, ◌≤◌, ◌<◌, ◌+◌, ◌++◌, ◌∷◌, [], length, IfOk, IfErr, OnOk};
-ghost use Rattle.std.specs.Prelude.{OnErr, string_bytes, true, ℕ, List};
+ghost use Rattle.std.specs.Prelude.{OnErr, string_bytes, true, ℕ, List, ◌⊎◌};
 ghost use Rattle.cweb_lines.specs.inner.StepCalls.{IsPlainLine, Obeys, OnlyOpens};
 ghost use Rattle.cweb_lines.specs.Include as spec;
-ghost use Rattle.cweb_lines.specs.inner.MergeProgress.{turn_lines, IsTaken, TurnKnown};
+ghost use Rattle.cweb_lines.specs.inner.MergeProgress.{turn_lines};
 ghost use Rattle.cweb_lines.specs.surface.MergeProgress.{KeepsReported, so_far_of};
 ghost use Rattle.cweb_lines.specs.surface.OpenedFileNames.{opened_file_names};
 ghost use Rattle.cweb_lines.specs.declared.limits.TheConstants.{OPEN_FILES};
 ghost use Rattle.cweb_lines.specs.inner.OpenSources.{OpensSource, StaysBelow};
 ghost use Rattle.cweb_lines.specs.surface.MergerCalls.{AreReadersKnown};
 
-use crate::fault::SourceKind;
 use crate::files::find::{Opening, find};
 use crate::include::{include_name, is_include_line};
 use crate::limits::OPEN_FILES;
 use crate::merge_state::MergeState;
-use crate::open_source::{LineAt, OpenSource};
-use crate::source::Source;
+use crate::open::open_source;
+use crate::open_source::LineAt;
 use crate::step::Turn;
-use crate::stop::Stop;
-use cweb_files::{FileId, Shelf};
+use crate::{SourceKind, Stop};
+use cweb_files::Shelf;
 
 // Opens an included file. Its lines are next, one deeper than the include line, and match as it does.
 fn open<R: Drop>(run: &mut MergeState<R>, opening: Opening<R>, at: LineAt) -> Result<(), Stop>
@@ -39,18 +38,14 @@ fn open<R: Drop>(run: &mut MergeState<R>, opening: Opening<R>, at: LineAt) -> Re
         AreReadersKnown opened_as run.old → AreReadersKnown opened_as run.new }
     ensures only { OnlyOpens run.old run.new }
 {
-    let Opening { name, reader } = opening;
-    let buffer = run.stack.buffers.take(run.alloc)?;
-    let source = Source::with_buffer(run.alloc, reader, buffer)?;
-    let file = FileId(run.names.count());
-    run.names.push(name)?;
-    run.stack.push(OpenSource {
-        source,
-        file,
-        line: 0,
-        depth: at.depth + 1,
-        may_match: at.may_match,
-    });
+    let text = open_source(
+        run.alloc,
+        &mut run.names,
+        opening,
+        at.depth + 1,
+        at.may_match,
+    )?;
+    run.stack.push(text);
     Ok(())
 }
 
@@ -90,9 +85,7 @@ pub fn emit_or_obey<S: Shelf>(
     requires { IsPlainLine run.old line.now at }
     ensures obeys { Obeys (S.model shelf.old) (S.model shelf.new) run.old run.new line.now at
         (λ turn. turn_lines turn line.now) result }
-    ensures goes { IfOk result (λ turn. IsTaken turn) }
-    ensures known { IfOk result
-        (λ turn. TurnKnown (length (opened_file_names run.new.names)) turn) }
+    ensures turn { IfOk result (λ turn. (turn ≡ Turn.Emitted at.place) ⊎ (turn ≡ Turn.On)) }
 {
     if !is_include_line(line) {
         return Ok(Turn::Emitted(at.place));

@@ -10,12 +10,11 @@ ghost use Rattle.cweb_lines.specs.inner.StepCalls.{OnlyReports, TakesLine};
 ghost use Rattle.cweb_lines.specs.inner.OpenSources.{TakesNextLine, TakesAbove, FirstStops, StopsAbove};
 
 use crate::change::Stage;
-use crate::fault::{SourceFault, SourceKind};
 use crate::merge_state::MergeState;
 use crate::open_source::LineAt;
 use crate::open_source::stack::take_above;
 use crate::open_source::take::take_from;
-use crate::stop::Stop;
+use crate::{SourceFault, SourceKind, Stop};
 use cweb_files::{Place, Shelf};
 use std::alloc::AllocError;
 
@@ -48,10 +47,8 @@ impl<R: Drop> MergeState<R> {
         ensures only { OnlyReports self.old self.new }
     {
         let fault = SourceFault { kind, place, count };
-        match self.faults.push(fault) {
-            Ok(()) => Ok(()),
-            Err(e) => Err(AllocError::from(e).into()),
-        }
+        self.faults.push(fault).map_err(|e| AllocError::from(e))?;
+        Ok(())
     }
 }
 

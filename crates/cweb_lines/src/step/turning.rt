@@ -8,13 +8,12 @@ use crate::change::code::{Code, change_code};
 use crate::change::old_side::begin_change;
 use crate::change::seek::seek;
 use crate::change::{Change, Stage};
-use crate::fault::SourceKind;
 use crate::merge_state::MergeState;
 use crate::open_source::LineAt;
 use crate::step::Turn;
 use crate::step::obey::emit_or_obey;
 use crate::step::progress::{take_change, take_raw};
-use crate::stop::Stop;
+use crate::{SourceKind, Stop};
 use cweb_files::{Place, Shelf};
 
 // Takes a line of a change's new side. An include line is obeyed. A code line ends the side or is a fault.

@@ -1,27 +1,55 @@
 // Appends lines that pass through to a caller's buffer.
-ghost use Rattle.std.specs.Prelude.{◌≡◌, ◌<◌, ◌++◌, ◌∷◌, [], OnOk, OnErr};
-ghost use Rattle.cweb_lines.specs.inner.Passing.{AppendsPassedLines};
+ghost use Rattle.std.specs.Prelude.{◌≡◌, ◌<◌, ◌++◌, ◌∷◌, [], ℕ, List, length, OnOk, OnErr};
+ghost use Rattle.cweb_lines.specs.inner.Ahead.{IsAhead, LooksAhead};
+ghost use Rattle.cweb_lines.specs.inner.Passing.{AppendsPassedLines, ComesNext, OnlyLastExceeds};
 
-use crate::merge_state::MergeState;
+use crate::merger::ahead::line_after;
+use crate::{Ahead, Merger};
+use cweb_files::Shelf;
 use std::alloc::AllocError;
 
-/// Appends lines that pass through, while the buffer has fewer than `room` bytes. A refused line is still to come.
-pub fn pass_lines<R: Drop>(
-    run: &mut MergeState<R>,
-    buffer: &mut Vec<u8>,
-    room: usize,
-) -> Result<(), AllocError>
-    ensures passes { AppendsPassedLines room run.old run.new buffer.old.items buffer.new.items }
-    ensures err { OnErr result (0 < room) }
-{
-    'lines: while buffer.len() < room {
-        let Some(stretch) = run.stretch(room - buffer.len()) else {
-            break 'lines;
-        };
-        append_line(buffer, run.printed(stretch))?;
-        run.advance(stretch);
+impl<S: Shelf> Merger<S> {
+    /// Appends lines that pass through, while the buffer has fewer than `room` bytes. A refused line is still to come.
+    pub(crate) fn pass_lines(&mut self, buffer: &mut Vec<u8>, room: usize) -> Result<(), AllocError>
+        ensures passes { AppendsPassedLines room self.old.run self.new.run
+            buffer.old.items buffer.new.items }
+        ensures err { OnErr result (0 < room) }
+    {
+        'lines: while buffer.len() < room {
+            let Some(first) = self.first_ahead() else {
+                break 'lines;
+            };
+            let ahead = self.ahead_up_to(first, room - buffer.len());
+            append_line(buffer, self.run.printed(ahead.stretch))?;
+            self.take_ahead(ahead);
+        }
+        Ok(())
     }
-    Ok(())
+
+    // The next line and lines after it, until they have `room` bytes.
+    #[inline(always)]
+    fn ahead_up_to(&self, first: Ahead, room: usize) -> Ahead
+        requires looks { LooksAhead self.now.run [] first }
+        requires ahead { IsAhead self.now.run first }
+        ensures lines { (lines : List (List ℕ)) × ComesNext self.now.run result.stretch lines
+            × OnlyLastExceeds room lines × (0 < length lines) }
+        ensures ahead { IsAhead self.now.run result }
+    {
+        let run = &self.run;
+        let Some(text) = &run.stack.texts[run.stack.depth - 1] else {
+            return first;
+        };
+        let mut ahead = first;
+        'lines: while ahead.stretch.text + 1 == ahead.stretch.end
+            && ahead.stretch.end - text.source.start < room
+        {
+            let Some(next) = line_after(text, run.stage, &run.first, ahead.stretch) else {
+                break 'lines;
+            };
+            ahead = next;
+        }
+        ahead
+    }
 }
 
 // Appends a line and its newline, or neither. The room for both is requested at once, so that the buffer grows once.

@@ -96,7 +96,7 @@ fn compare_reads(rt: &(impl AllocGlobal + Abort), most: usize) -> Result<(), Fai
     merge_reads(rt, READS, &WEB, most, 0, &mut case)
 }
 
-// Blanks, line ends and an include line are at each offset of a read, and buffers are reused.
+// Blanks, line ends and an include line are at each offset of a read.
 #[test]
 fn reads_of_all_sizes(rt: HostRuntime) -> Result<(), Fail> {
     for most in 1..=40usize {

@@ -4,7 +4,7 @@ use Rattle.cweb_store.specs.Parts.{Token, all_tokens}
 use Rattle.cweb_out.specs.Printing.{print, macro_line, macro_lines, replaced_in}
 use Rattle.cweb_out.specs.surface.Printed.{left_after_tokens, left_in_printer, setting_of, MarkFileIsNamed}
 use Rattle.cweb_out.specs.surface.Printed.{tokens_of_part}
-use Rattle.cweb_out.specs.inner.Classes.{AreDirect, added, begin_by, file_by}
+use Rattle.cweb_out.specs.inner.Edges.{AreDirect, added, begin_by, file_by}
 use Rattle.cweb_out.specs.declared.printer.left.Left.{Left}
 use Rattle.cweb_out.specs.declared.printer.Printer.{Printer}
 use Rattle.cweb_files.specs.Sinks.{SinkModel, failing, with_printed}
@@ -60,7 +60,7 @@ blank_where is_apart = if is_apart then codes " " else []
 -- Its bytes, after what was printed so far.
 abbrev pub printable_bytes : Printer → Printable → List ℕ
 printable_bytes p (Printable.Token t) = added (file_by (setting_of p)) (left_in_printer p) (token_model t)
-printable_bytes p Printable.LineStart = begin_by (left_in_printer p).class
+printable_bytes p Printable.LineStart = begin_by (left_in_printer p).last
 printable_bytes p (Printable.Macro part) = macro_line (replaced_in p.store.now) (tokens_of_part p.store.now part)
 
 -- The file of a line mark has a name, and a macro is in the store.

@@ -3,8 +3,8 @@ use Rattle.std.specs.Prelude.{ℕ, ◌≤◌, ◌<◌, ◌≡◌, ◌+◌, ◌-�
 use Rattle.std.specs.Prelude.{sum_by, true, false}
 use Rattle.std.specs.List.{list_all, list_any}
 use Rattle.cweb_store.specs.declared.name.NameId.{NameId}
-use Rattle.cweb_store.specs.declared.name.NameRef.{NameRef}
 use Rattle.cweb_store.specs.Parts.{Token, Name}
+use Rattle.cweb_store.specs.declared.name.NameRef.{NameRef}
 use Rattle.cweb_store.specs.Calls.{Stored}
 use Rattle.cweb_out.specs.Expansion.{names, ends_below, joined, use_of, resolved_use, expanded_name, put}
 use Rattle.cweb_out.specs.surface.FrameStacks.{suffix, IsReady, rank, left, FrameIsWithin}

@@ -1,14 +1,12 @@
--- Laws of expansion, printing and cycles for any web.
-use Rattle.std.specs.Prelude.{◌≡◌, ◌≤◌, ◌<◌, ◌↔◌, ◌==◌, ℕ, suc, Bool, true, false, List, [], ◌∷◌, ◌++◌, Some, Err, fold}
-use Rattle.std.specs.Prelude.{codes, if◌then◌else◌}
-use Rattle.std.specs.List.{list_all, list_any}
+-- Laws of expansion and printing for any web.
+use Rattle.std.specs.Prelude.{◌≡◌, ◌<◌, ◌↔◌, ◌==◌, ℕ, suc, Bool, true, false, List, [], ◌∷◌, ◌++◌, Some, fold, codes}
+use Rattle.std.specs.Prelude.{if◌then◌else◌}
+use Rattle.std.specs.List.{list_all}
 use Rattle.cweb_store.specs.declared.name.NameId.{NameId}
-use Rattle.cweb_store.specs.declared.name.NameRef.{NameRef}
-use Rattle.cweb_store.specs.Names.{is_id}
 use Rattle.cweb_store.specs.Parts.{Token, Name, Join, Head, Tail}
+use Rattle.cweb_store.specs.declared.name.NameRef.{NameRef}
 use Rattle.cweb_store.specs.Calls.{Stored}
-use Rattle.cweb_out.specs.Expansion.{names, joined, resolved_use, uses, ends_below, has_rank, expand}
-use Rattle.cweb_out.specs.Outputs.{cycle, planned}
+use Rattle.cweb_out.specs.Expansion.{names, joined, resolved_use, ends_below, has_rank, expand}
 use Rattle.cweb_rules.specs.Edges.{last_is}
 use Rattle.cweb_out.specs.Printing.{Setting, file, file_token_bytes, without_joined_layout, left_after, print}
 use Rattle.cweb_out.specs.Printing.{print_after, stays_joined, plain_bytes}
@@ -30,11 +28,6 @@ pub record ReplacesUses (w : Stored) (k : ℕ) : Type 0 where
 
 abbrev pub ExpansionReplacesUsesAlone : Type 0
 ExpansionReplacesUsesAlone = (w : Stored) (k : ℕ) → ReplacesUses w k
-
--- If each name that a list uses has a rank below k, the expansion is equal at every depth from k on.
-abbrev pub DepthAboveTheRankChangesNothing : Type 0
-DepthAboveTheRankChangesNothing = (w : Stored) (k depth : ℕ) (ts : List Token) → k ≤ depth
-    → list_all (ends_below w k) (uses w ts) ≡ true → expand w depth ts ≡ expand w k ts
 
 -- A name has a rank below the number of names exactly if it has a rank below some number.
 abbrev pub RanksAreBelowTheNames : Type 0
@@ -62,23 +55,6 @@ is_whole_lines (b ∷ bytes) = last_is (λ x. x == 10) (b ∷ bytes)
 
 abbrev pub FilesHaveWholeLines : Type 0
 FilesHaveWholeLines = (s : Setting) (ts : List Token) → is_whole_lines (file s ts) ≡ true
-
--- Each name of a list but the last uses the next one.
-abbrev pub EachUsesNext : Stored → List NameId → Type 0
-EachUsesNext w [] = Unit {0}
-EachUsesNext w (n ∷ []) = Unit {0}
-EachUsesNext w (n ∷ m ∷ ns) = (list_any (is_id m) (uses w (joined w n)) ≡ true) × EachUsesNext w (m ∷ ns)
-
--- A cycle of names: at least two entries, and the last equals the first.
-pub record IsCycle (w : Stored) (ns : List NameId) : Type 0 where
-  pub first : NameId
-  pub between : List NameId
-  pub closed : ns ≡ first ∷ between ++ first ∷ []
-  pub each : EachUsesNext w ns
-
-abbrev pub RefusedCyclesAreCycles : Type 0
-RefusedCyclesAreCycles = (w : Stored) (main : List ℕ) (ns : List NameId) → planned w main ≡ Err (cycle ns)
-    → IsCycle w ns
 
 -- A blank, if the token before is a Join.
 abbrev pub blank_if : Bool → List ℕ

@@ -1,44 +1,33 @@
 -- A printer's state, and the bytes that its calls add to a sink.
-use Rattle.std.specs.Prelude.{ℕ, ◌==◌, Bool, false, ◌&&◌, List, Option, None, Some, if◌then◌else◌, fold, ◌≡◌, [], ◌∷◌}
-use Rattle.std.specs.Prelude.{◌++◌, Result, ◌<◌, length, slice_range}
-use Rattle.cweb_store.specs.Parts.{Token, Word, Number, Literal, Verbatim, Punct, Blank, Newline, Join, Defs, Name}
-use Rattle.cweb_store.specs.Parts.{Head, Tail, Mark, is_layout, all_tokens}
-use Rattle.cweb_rules.specs.Edges.{last_is, is_operator}
+use Rattle.std.specs.Prelude.{ℕ, Bool, false, ◌&&◌, List, Option, None, Some, if◌then◌else◌, fold, ◌≡◌, [], ◌∷◌, ◌++◌}
+use Rattle.std.specs.Prelude.{Result, ◌<◌, length, slice_range}
+use Rattle.cweb_store.specs.Parts.{Token, Word, Number, Literal, Verbatim, Punct, Blank, Newline, Join, Defs, Mark}
+use Rattle.cweb_store.specs.Parts.{is_layout, all_tokens}
 use Rattle.cweb_out.specs.Printing.{stays_joined, Setting, print, file, setting}
-use Rattle.cweb_out.specs.declared.printer.class.Class.{Class}
+use Rattle.cweb_store.specs.declared.edges.Edge.{Edge}
+use Rattle.cweb_store.specs.surface.Tokens.{punctuator_edge, tokens_at}
 use Rattle.cweb_out.specs.declared.printer.left.Left.{Left}
 use Rattle.cweb_files.specs.Sinks.{SinkModel}
 use Rattle.cweb_files.specs.surface.Writes.{Wrote}
 use Rattle.cweb_lines.specs.surface.OpenedFileNames.{opened_file_names}
 use Rattle.cweb_out.specs.declared.printer.Printer.{Printer}
 use Rattle.cweb_store.specs.declared.parts.Part.{Part}
-use Rattle.cweb_store.specs.surface.Tokens.{tokens_at}
 use Rattle.cweb_store.specs.Calls.{Stored}
-use Rattle.cweb_out.specs.declared.printer.class.Class.TheVariants as class
+use Rattle.cweb_store.specs.declared.edges.Edge.TheVariants as edge_kind
 
--- The class of a punctuator, from two tests of its last byte: for a point and for an operator byte.
-abbrev pub class_by : Bool → Bool → Class
-class_by is_point is_operator = if is_point then class.Point else (if is_operator then class.Operator else class.Other)
-
-abbrev pub punct_class : List ℕ → Class
-punct_class b = class_by (last_is (λ x. x == 46) b) (last_is is_operator b)
-
--- The class of the token to the left, if any.
-abbrev pub class_of : Option Token → Class
-class_of None = class.LineStart
-class_of (Some (Word b)) = class.Word
-class_of (Some (Number b)) = class.Number
-class_of (Some (Literal b)) = class.Literal
-class_of (Some (Verbatim b)) = class.Glue
-class_of (Some (Punct b)) = punct_class b
-class_of (Some Blank) = class.Other
-class_of (Some Newline) = class.LineStart
-class_of (Some Join) = class.Glue
-class_of (Some Defs) = class.LineStart
-class_of (Some (Name r)) = class.Other
-class_of (Some (Head n)) = class.Other
-class_of (Some (Tail n)) = class.Other
-class_of (Some (Mark p)) = class.LineStart
+-- The edge of the token to the left, if any. It decides on a blank after that token.
+abbrev pub edge_of : Option Token → Edge
+edge_of None = edge_kind.LineEnd
+edge_of (Some (Word b)) = edge_kind.Word
+edge_of (Some (Number b)) = edge_kind.Number
+edge_of (Some (Literal b)) = edge_kind.Literal
+edge_of (Some (Verbatim b)) = edge_kind.Glue
+edge_of (Some (Punct b)) = punctuator_edge b
+edge_of (Some Newline) = edge_kind.LineEnd
+edge_of (Some Join) = edge_kind.Glue
+edge_of (Some Defs) = edge_kind.LineEnd
+edge_of (Some (Mark p)) = edge_kind.LineEnd
+edge_of (Some t) = edge_kind.Blank
 
 -- Layout after a join is dropped.
 abbrev pub is_dropped : Left → Token → Bool
@@ -47,11 +36,11 @@ is_dropped left t = left.joined && is_layout t
 -- The state after one more token.
 abbrev pub left_after_token : Left → Token → Left
 left_after_token left t =
-    if is_dropped left t then left else record { class = class_of (Some t); joined = stays_joined left.joined t }
+    if is_dropped left t then left else record { last = edge_of (Some t); joined = stays_joined left.joined t }
 
 -- The state before the first token.
 abbrev pub at_start : Left
-at_start = record { class = class.LineStart; joined = false }
+at_start = record { last = edge_kind.LineEnd; joined = false }
 
 abbrev pub left_after_tokens : List Token → Left
 left_after_tokens ts = fold left_after_token at_start ts

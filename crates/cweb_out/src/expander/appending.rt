@@ -4,9 +4,7 @@ ghost use Rattle.cweb_out.specs.surface.FrameStacks.{IsReady, left};
 ghost use Rattle.cweb_out.specs.inner.BufferedPrinting.{PrintsPrefix};
 ghost use Rattle.cweb_out.specs.surface.Printed.{setting_of};
 
-use crate::buffer::OutBuffer;
-use crate::expander::Expander;
-use crate::printer::Printer;
+use crate::{Expander, OutBuffer, Printer};
 
 impl<'a> Expander<'a> {
     /// Prints the next tokens into the buffer, up to one that isn't direct or doesn't fit. No allocation.

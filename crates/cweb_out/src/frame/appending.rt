@@ -4,9 +4,8 @@ ghost use Rattle.cweb_store.specs.Parts.{Name};
 ghost use Rattle.cweb_out.specs.surface.FrameStacks.{FrameIsWithin, suffix};
 ghost use Rattle.cweb_out.specs.inner.FrameStacks.{KeepsFrame, PrintsFrame};
 
-use crate::buffer::OutBuffer;
 use crate::frame::Frame;
-use crate::printer::Printer;
+use crate::{OutBuffer, Printer};
 use cweb_store::{NameRef, Store, Token};
 
 impl<'a> Frame<'a> {

@@ -1,13 +1,12 @@
 // Depth-first search for a cycle of names that use one another.
-ghost use Rattle.std.specs.Prelude.{◌≡◌, ◌<◌, ◌+◌, ◌++◌, ◌∷◌, [], true, false, None, Some};
-ghost use Rattle.std.specs.Prelude.{length, option_map, All, IfOk, IfSome, OnOk};
+ghost use Rattle.std.specs.Prelude.{◌≡◌, ◌<◌, ◌+◌, ◌++◌, ◌∷◌, [], true, false, None, Some, length, option_map, All};
+ghost use Rattle.std.specs.Prelude.{IfOk, IfSome, OnOk};
 ghost use Rattle.std.specs.List.{list_all};
 ghost use Rattle.cweb_out.specs.Expansion.{names, uses};
 ghost use Rattle.cweb_out.specs.surface.FrameStacks.{FrameIsWithin, suffix};
 ghost use Rattle.cweb_out.specs.inner.Planning.{IsRoot, first_cycle};
-ghost use Rattle.cweb_out.specs.inner.Search.{Chain, IsIdle, MarksFitPath};
-ghost use Rattle.cweb_out.specs.inner.Search.{Goes, FindsUnranked, Settles, SettlesList, Waited};
-ghost use Rattle.cweb_out.specs.inner.Search.{back_to, is_marked, mark_of, cycle_with_next};
+ghost use Rattle.cweb_out.specs.inner.Search.{Chain, IsIdle, MarksFitPath, Goes, FindsUnranked, Settles, SettlesList};
+ghost use Rattle.cweb_out.specs.inner.Search.{Waited, back_to, is_marked, mark_of, cycle_with_next};
 
 use crate::frame::Frame;
 use cweb_store::{NameId, Store};

@@ -7,11 +7,10 @@ ghost use Rattle.cweb_out.specs.inner.BufferedPrinting.{CanPrint, all_macro_line
 ghost use Rattle.cweb_out.specs.surface.Printed.{left_after_tokens, MarkFileIsNamed, EndsFile};
 ghost use Rattle.cweb_out.specs.surface.Printed.{Moves, PrintsToken, left_in_printer, setting_of};
 
-use crate::buffer::OutBuffer;
 use crate::chunks::write_chunk;
-use crate::printer::Printer;
 use crate::printer::left::Left;
 use crate::printer::macros::write_macro;
+use crate::{OutBuffer, Printer};
 use cweb_files::{Sink, SinkFault};
 use cweb_store::{Part, Token};
 

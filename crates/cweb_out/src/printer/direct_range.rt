@@ -2,15 +2,14 @@
 ghost use Rattle.std.specs.Prelude.{◌≤◌, ◌≡◌, false, length, slice_range, take};
 ghost use Rattle.cweb_store.specs.Parts.{all_tokens};
 ghost use Rattle.cweb_out.specs.declared.buffer.TheConstants.{ROOM};
-ghost use Rattle.cweb_out.specs.inner.Classes.{left_after_edge, AreDirect};
+ghost use Rattle.cweb_out.specs.inner.Edges.{left_after_edge, AreDirect};
 ghost use Rattle.cweb_out.specs.inner.BufferedPrinting.{MovesBy, PrintsBy};
 ghost use Rattle.cweb_out.specs.surface.Printed.{left_in_printer, setting_of};
 
-use crate::buffer::OutBuffer;
 use crate::buffer::copying::put_if_fits;
-use crate::printer::Printer;
-use crate::printer::edges::{class_after_edge, edge_is_apart, edge_of_class};
+use crate::printer::edges::edge_is_apart;
 use crate::printer::left::Left;
+use crate::{OutBuffer, Printer};
 use cweb_store::{Edge, Part, Store};
 
 // The progress in a range: the next token, the edge of the last one, and the number of used bytes.
@@ -45,7 +44,7 @@ impl<'a> Printer<'a> {
         let reached = self.put_range(store, part, buffer.bytes.as_mut_slice(), buffer.used);
         buffer.used = reached.used;
         self.left = Left {
-            class: class_after_edge(reached.last),
+            last: reached.last,
             joined: false,
         };
         reached.number
@@ -73,7 +72,7 @@ impl<'a> Printer<'a> {
         let token_reader = store.token_reader();
         let mut reached = Reached {
             number: part.first,
-            last: edge_of_class(self.left.class),
+            last: self.left.last,
             used,
         };
         'tokens: while reached.number < part.after {

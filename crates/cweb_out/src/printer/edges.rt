@@ -1,9 +1,10 @@
-// Blanks between direct tokens.
-ghost use Rattle.std.specs.Prelude.{◌≡◌};
-ghost use Rattle.cweb_out.specs.inner.Classes.{class_after_edge, edge_is_apart};
+// Blanks between tokens.
+ghost use Rattle.std.specs.Prelude.{◌≡◌, ◌||◌, Some};
+ghost use Rattle.cweb_store.specs.surface.Tokens.{token_model};
+ghost use Rattle.cweb_out.specs.surface.Printed.{edge_of};
+ghost use Rattle.cweb_out.specs.inner.Edges.{edge_is_apart, edge_is_glue, edge_is_operator, is_apart};
 
-use crate::printer::class::Class;
-use cweb_store::Edge;
+use cweb_store::{Edge, Token, punctuator_edge};
 
 // Whether a blank comes between two edges: a row of sixteen for each left edge.
 const APART: [bool; 256] = [
@@ -31,39 +32,44 @@ const APART: [bool; 256] = [
 /// Whether a blank comes between tokens with these edges.
 #[inline(always)]
 pub(crate) fn edge_is_apart(left: Edge, right: Edge) -> bool
-    ensures { result ≡ edge_is_apart (class_after_edge left) right }
+    ensures { result ≡ edge_is_apart left right }
 {
     APART[16 * left as usize + right as usize]
 }
 
-/// An edge whose tokens have the class.
-pub(crate) fn edge_of_class(class: Class) -> Edge
-    ensures { class_after_edge result ≡ class }
+/// The edge of a token.
+#[inline(always)]
+pub(crate) fn edge_of(token: &Token<'_>) -> Edge
+    ensures { result ≡ edge_of (Some (token_model token.now)) }
 {
-    match class {
-        Class::LineStart => Edge::LineEnd,
-        Class::Word => Edge::Word,
-        Class::Number => Edge::Number,
-        Class::Literal => Edge::Literal,
-        Class::Point => Edge::PlainPoint,
-        Class::Operator => Edge::PlainOperator,
-        Class::Glue => Edge::Glue,
-        Class::Other => Edge::Blank,
+    match token {
+        Token::Word(_) => Edge::Word,
+        Token::Number(_) => Edge::Number,
+        Token::Literal(_) => Edge::Literal,
+        Token::Verbatim(_) | Token::Join => Edge::Glue,
+        Token::Punct(bytes) => punctuator_edge(bytes),
+        Token::Newline | Token::Mark(_) | Token::Defs => Edge::LineEnd,
+        _ => Edge::Blank,
     }
 }
 
-/// The class of tokens with an edge.
-pub(crate) fn class_after_edge(edge: Edge) -> Class
-    ensures { result ≡ class_after_edge edge }
+/// Whether a blank comes between a token with this edge and the next token.
+#[inline(always)]
+pub(crate) fn is_apart(left: Edge, token: &Token<'_>) -> bool
+    ensures { result ≡ is_apart left (token_model token.now) }
 {
-    match edge {
-        Edge::LineEnd => Class::LineStart,
-        Edge::Word => Class::Word,
-        Edge::Number => Class::Number,
-        Edge::Literal => Class::Literal,
-        Edge::Glue => Class::Glue,
-        Edge::PlainPoint | Edge::OperatorPoint | Edge::NumericPoint => Class::Point,
-        Edge::PlainOperator | Edge::OperatorOperator | Edge::NumericOperator => { Class::Operator }
-        _ => Class::Other,
+    match token {
+        Token::Head(_) | Token::Tail(_) => is_before_comment(left),
+        _ => edge_is_apart(left, edge_of(token)),
+    }
+}
+
+// Whether a blank comes before a section comment: after an operator, a join or verbatim bytes.
+fn is_before_comment(left: Edge) -> bool
+    ensures { result ≡ (edge_is_operator left || edge_is_glue left) }
+{
+    match left {
+        Edge::Glue => true,
+        _ => edge_is_apart(left, Edge::OperatorPlain),
     }
 }

@@ -5,13 +5,13 @@ ghost use Rattle.cweb_out.specs.Printing.{stays_joined};
 ghost use Rattle.cweb_store.specs.Parts.{is_layout};
 ghost use Rattle.cweb_out.specs.surface.Printed.{at_start, is_dropped, left_after_token};
 
-use crate::printer::class::Class;
-use cweb_store::Token;
+use crate::printer::edges::edge_of;
+use cweb_store::{Edge, Token};
 
-/// The class of the last printed token, and whether a join is open: only layout and section comments followed it.
+/// The edge of the last printed token, and whether a join is open: only layout and section comments followed it.
 #[derive(Clone, Copy)]
 pub(crate) struct Left {
-    pub class: Class,
+    pub last: Edge,
     pub joined: bool,
 }
 
@@ -21,7 +21,7 @@ impl Left {
         ensures { result ≡ at_start }
     {
         Left {
-            class: Class::LineStart,
+            last: Edge::LineEnd,
             joined: false,
         }
     }
@@ -41,7 +41,7 @@ impl Left {
             return self;
         }
         Left {
-            class: Class::of(token),
+            last: edge_of(token),
             joined: stays_joined(self.joined, token),
         }
     }

@@ -5,15 +5,14 @@ ghost use Rattle.cweb_store.specs.surface.Tokens.{token_model};
 ghost use Rattle.cweb_store.specs.inner.DirectBytes.{direct_bytes};
 ghost use Rattle.cweb_store.specs.Parts.{all_tokens};
 ghost use Rattle.cweb_out.specs.Printing.{macro_line, macros, replaced_in};
-ghost use Rattle.cweb_out.specs.inner.Classes.{added, all_added, continuation_bytes, macro_by};
-ghost use Rattle.cweb_out.specs.inner.Classes.{continued_by, edge_is_apart, token_at};
+ghost use Rattle.cweb_out.specs.inner.Edges.{added, all_added, continuation_bytes, macro_by};
+ghost use Rattle.cweb_out.specs.inner.Edges.{continued_by, edge_is_apart, token_at};
 ghost use Rattle.cweb_out.specs.surface.Printed.{at_start, left_after_token, tokens_of_part};
 ghost use Rattle.cweb_out.specs.inner.BufferedPrinting.{blank_where};
 ghost use Rattle.cweb_store.specs.inner.StringLists.{token_bytes_model};
 
 use crate::chunks::{write_blank, write_chunk};
-use crate::printer::class::Class;
-use crate::printer::edges::{class_after_edge, edge_is_apart, edge_of_class};
+use crate::printer::edges::{edge_is_apart, is_apart};
 use crate::printer::left::Left;
 use crate::printer::plain::write_plain;
 use cweb_files::{Sink, SinkFault};
@@ -79,9 +78,9 @@ fn write_macro_token<W: Sink>(
         (W.model out.old) (W.model out.new) result }
 {
     if let (false, Some(direct)) = (left.joined, token_reader.direct(number)) {
-        write_direct(left.class, direct, out)?;
+        write_direct(left.last, direct, out)?;
         return Ok(Left {
-            class: class_after_edge(direct.edge),
+            last: direct.edge,
             joined: false,
         });
     }
@@ -90,14 +89,14 @@ fn write_macro_token<W: Sink>(
 
 // Fast path: writes a token that is printed as its own bytes.
 #[inline(always)]
-fn write_direct<W: Sink>(class: Class, direct: TokenBytes<'_>, out: &mut W) -> Result<(), SinkFault>
+fn write_direct<W: Sink>(last: Edge, direct: TokenBytes<'_>, out: &mut W) -> Result<(), SinkFault>
     requires { (W.model out.old).failed + 1 < 2 ^ 64 }
     ensures wrote { Wrote
-        (blank_where (edge_is_apart class direct.entry.edge)
+        (blank_where (edge_is_apart last direct.entry.edge)
         ++ continued_by (token_bytes_model direct.entry))
         (W.model out.old) (W.model out.new) result }
 {
-    write_blank(out, edge_is_apart(edge_of_class(class), direct.edge))?;
+    write_blank(out, edge_is_apart(last, direct.edge))?;
     write_chunk(out, continued_bytes(direct))
 }
 
@@ -145,7 +144,7 @@ fn write_spaced<W: Sink>(
     if left.drops(token) {
         return Ok(());
     }
-    write_blank(out, left.class.is_apart(token))?;
+    write_blank(out, is_apart(left.last, token))?;
     write_chunk(out, continued(token))?;
     write_plain(store, token, out)
 }

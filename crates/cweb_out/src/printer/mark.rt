@@ -3,7 +3,7 @@ ghost use Rattle.std.specs.Prelude.{◌≡◌, ◌<◌, ◌+◌, ◌^◌, ◌++�
 ghost use Rattle.std.specs.List.{list_any};
 ghost use Rattle.cweb_files.specs.surface.Writes.{Wrote};
 ghost use Rattle.cweb_out.specs.Printing.{mark_line, quoted, quoted_byte};
-ghost use Rattle.cweb_out.specs.inner.Classes.{file_name_end, wants_backslash};
+ghost use Rattle.cweb_out.specs.inner.Edges.{file_name_end, wants_backslash};
 
 use crate::chunks::{write_chunk, write_three};
 use cweb_files::{Sink, SinkFault};

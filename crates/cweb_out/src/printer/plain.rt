@@ -4,7 +4,7 @@ ghost use Rattle.std.specs.List.{list_any};
 ghost use Rattle.cweb_files.specs.surface.Writes.{Wrote};
 ghost use Rattle.cweb_store.specs.surface.Tokens.{token_model};
 ghost use Rattle.cweb_out.specs.Printing.{plain_bytes, word_byte, word_bytes, hex_digit, replaced_in};
-ghost use Rattle.cweb_out.specs.inner.Classes.{numbered_comment};
+ghost use Rattle.cweb_out.specs.inner.Edges.{numbered_comment};
 
 use crate::chunks::{write_chunk, write_three};
 use cweb_files::{Sink, SinkFault};

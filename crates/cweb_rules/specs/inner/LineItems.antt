@@ -1,36 +1,35 @@
 -- Delimited items, their plain bytes and their extent, and those that are open at the end of their line.
 use Rattle.std.specs.Prelude.{◌≡◌, ◌≢◌, ℕ, ◌+◌, Bool, true, false, ◌&&◌, ◌||◌, List, [], ◌∷◌, ◌++◌, length, drop, codes}
 use Rattle.std.specs.Prelude.{if◌then◌else◌, ◌<◌, ◌≤◌, not, ◌==◌}
-use Rattle.std.specs.Coded.{×_prop, →_prop, Unit-prop}
+use Rattle.std.specs.List.{AllByRecursion}
 use Rattle.cweb_rules.specs.Bytes.{is_blank, is_line_end, begins, at_line_end, starts_section}
 use Rattle.cweb_rules.specs.Edges.{first_is}
-use Rattle.cweb_rules.specs.declared.effect.Effect.{Effect}
-use Rattle.cweb_rules.specs.declared.effect.Effect.TheVariants.{Named}
+use Rattle.cweb_rules.specs.Matches.{Effect, c_rule, Context, Limbo, TeX, Definition, Macro, CText, Named}
 use Rattle.cweb_rules.specs.Codes.{in_limbo, in_tex, in_macro, in_c}
 use Rattle.cweb_rules.specs.Items.{reach, look_in_comment, look_in_name, look_in_literal, look_in_raw, Reach, body}
-use Rattle.cweb_rules.specs.Items.{look_in_control, look_in_include}
-use Rattle.cweb_rules.specs.declared.end.End.{End}
+use Rattle.cweb_rules.specs.Items.{look_in_control, look_in_include, End, Closed, Cut, Nested, Open}
 use Rattle.cweb_rules.specs.declared.look.Look.{Look}
-use Rattle.cweb_rules.specs.declared.end.End.TheVariants.{Closed, Cut, Nested, Open}
-use Rattle.cweb_rules.specs.Matches.{literal_prefix, quote_of, starts_literal, raw_prefix, delimiter, raw_closer}
-use Rattle.cweb_rules.specs.Matches.{starts_raw}
-use Rattle.cweb_rules.specs.declared.context.Context.{Context}
-use Rattle.cweb_rules.specs.declared.context.Context.TheVariants.{Limbo, TeX, Definition, Macro, CText}
+use Rattle.cweb_rules.specs.Literals.{literal_prefix, quote_of, raw_prefix, delimiter, raw_closer}
 use Rattle.cweb_rules.specs.declared.items.Item.{Item}
 use Rattle.cweb_rules.specs.declared.items.Item.TheVariants.{ControlText, Name, Comment, LineComment, Literal}
 use Rattle.cweb_rules.specs.declared.items.Item.TheVariants.{IncludedName, RawLiteral}
 use Rattle.cweb_rules.specs.declared.items.Reached.{Reached}
 use Rattle.cweb_rules.specs.declared.look.Look.TheVariants.{Goes, Ends}
+use Rattle.cweb_rules.specs.declared.rule.Rule.{Rule}
+use Rattle.cweb_rules.specs.declared.rule.Rule.TheVariants as rule
 
 -- The bytes have no newline.
 abbrev pub IsLine : List ℕ → Type 0
-IsLine [] = Unit {0}
-IsLine (b ∷ t) = (b ≢ 10) × IsLine t
+IsLine t = AllByRecursion (λ b. b ≢ 10) t
 
--- It has one proof at most, so that a type can have it as a ghost field.
-pub IsLine-prop : (t : List ℕ) → IsProp (IsLine t)
-IsLine-prop [] = Unit-prop
-IsLine-prop (b ∷ t) = ×_prop (→_prop (elim [ ])) (IsLine-prop t)
+-- No rule before the literals applies.
+pub record IsPast (t : List ℕ) : Type 0 where
+  pub blank : first_is is_blank t ≡ false
+  pub line_end : first_is is_line_end t ≡ false
+  pub comment : begins (codes "/*") t ≡ false
+  pub line_comment : begins (codes "//") t ≡ false
+  pub section : starts_section t ≡ false
+  pub code : begins (codes "@") t ≡ false
 
 abbrev pub AtLineEnd : List ℕ → Type 0
 AtLineEnd [] = Unit {0}
@@ -75,17 +74,16 @@ tex_opens effect t =
     if starts_section t then false
     else (if begins (codes "@") t then opens_code effect t else false)
 
+-- The lexeme of a rule of C text is still open after its line.
+abbrev pub opens_by : (ℕ → Effect) → List ℕ → Rule → Bool
+opens_by effect t rule.Comment = opens_comment t
+opens_by effect t rule.Code = opens_code effect t
+opens_by effect t rule.RawLiteral = opens_raw t
+opens_by effect t rule.Literal = opens_literal t
+opens_by effect t r = false
+
 abbrev pub c_opens : (ℕ → Effect) → List ℕ → Bool
-c_opens effect t =
-    if first_is is_blank t then false
-    else (if first_is is_line_end t then false
-    else (if begins (codes "/*") t then opens_comment t
-    else (if begins (codes "//") t then false
-    else (if starts_section t then false
-    else (if begins (codes "@") t then opens_code effect t
-    else (if starts_raw t then opens_raw t
-    else (if starts_literal t then opens_literal t
-    else false)))))))
+c_opens effect t = opens_by effect t (c_rule false t)
 
 abbrev pub macro_opens : List ℕ → Bool
 macro_opens t = if begins (codes "\\") t && at_line_end (drop 1 t) then false else c_opens in_macro t

@@ -6,15 +6,11 @@ use Rattle.cweb_rules.specs.Bytes.{is_digit, is_white, is_word_byte, listed, is_
 use Rattle.cweb_rules.specs.Edges.{is_one_of}
 use Rattle.cweb_rules.specs.Matches.{match_in, is_closed, Kind, Code, Quoted, Identifier, Numeral, Punctuator}
 use Rattle.cweb_rules.specs.Matches.{rule_match, Skipped, Section, Letter, ControlText, Verbatim, Constant, Occurrence}
-use Rattle.cweb_rules.specs.Matches.{Blanks, LineEnd, Comment, Defined, RuleMatch}
+use Rattle.cweb_rules.specs.Matches.{Blanks, LineEnd, Comment, Defined, RuleMatch, Context, Effect, EmitAt}
 use Rattle.cweb_rules.specs.declared.context.Context.TheVariants.{CText, Limbo, TeX, Definition, Macro}
-use Rattle.cweb_rules.specs.declared.effect.Effect.{Effect}
-use Rattle.cweb_rules.specs.declared.effect.Effect.TheVariants.{EmitAt}
 use Rattle.std.specs.Fmt.{decimal}
 use Rattle.cweb_rules.specs.Items.{unescaped, Reach, reach, look_in_control, look_in_name, look_in_comment}
-use Rattle.cweb_rules.specs.Items.{look_in_literal, look_in_include, look_in_raw}
-use Rattle.cweb_rules.specs.declared.context.Context.{Context}
-use Rattle.cweb_rules.specs.declared.end.End.{End}
+use Rattle.cweb_rules.specs.Items.{look_in_literal, look_in_include, look_in_raw, End}
 use Rattle.cweb_rules.specs.declared.look.Look.{Look}
 use Rattle.cweb_rules.specs.declared.look.Look.TheVariants.{Goes, Ends}
 

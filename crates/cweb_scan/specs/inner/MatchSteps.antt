@@ -1,10 +1,10 @@
--- The first rule that applies, and the state after its lexeme.
-use Rattle.std.specs.Prelude.{◌≡◌, ℕ, Bool, true, false, ◌||◌, not, List, [], ◌∷◌, ◌++◌, take, codes, ◌&&◌, drop}
+-- The first rule that applies, the state after its lexeme, and what is taken at once: lines ahead and plain C text.
+use Rattle.std.specs.Prelude.{◌≡◌, ℕ, Bool, true, false, ◌||◌, not, List, [], ◌∷◌, ◌++◌, take, codes, ◌&&◌, drop, ◌≤◌}
+use Rattle.std.specs.Prelude.{◌+◌, length, ◌<◌, ◌*◌, ◌==◌, Option, Some, None}
 use Rattle.cweb_files.specs.declared.place.Place.{Place}
-use Rattle.cweb_rules.specs.Bytes.{begins, is_blank, is_line_end, starts_section, at_line_end}
-use Rattle.cweb_rules.specs.Edges.{first_is}
+use Rattle.cweb_rules.specs.Bytes.{begins, at_line_end}
 use Rattle.cweb_rules.specs.Codes.{in_limbo, in_tex, in_macro, in_c}
-use Rattle.cweb_rules.specs.Matches.{RuleMatch}
+use Rattle.cweb_rules.specs.Matches.{RuleMatch, c_rule}
 use Rattle.cweb_rules.specs.declared.context.Context.{Context}
 use Rattle.cweb_rules.specs.declared.context.Context.TheVariants.{Limbo, TeX, Definition, Macro, CText}
 use Rattle.cweb_rules.specs.declared.effect.Effect.{Effect}
@@ -12,11 +12,91 @@ use Rattle.cweb_rules.specs.declared.end.End.{End}
 use Rattle.cweb_rules.specs.declared.end.End.TheVariants.{Closed, Cut, Nested, Open}
 use Rattle.cweb_rules.specs.declared.rule.Rule.{Rule}
 use Rattle.cweb_scan.specs.Effects.{item}
-use Rattle.cweb_scan.specs.State.{is_c, ScanState, names_include}
-use Rattle.cweb_scan.specs.inner.ScanParts.{in_open_part}
-use Rattle.cweb_rules.specs.inner.Rules.{c_rule}
+use Rattle.cweb_scan.specs.State.{is_c, ScanState, names_include, in_directive, is_punct}
+use Rattle.cweb_scan.specs.inner.ScanParts.{in_open_part, scanned_of, last_kind}
 use Rattle.cweb_rules.specs.declared.effect.Effect.TheVariants as effect
 use Rattle.cweb_rules.specs.declared.rule.Rule.TheVariants as rule
+use Rattle.cweb_files.specs.Shelves.{Observed, ShelfContents, ShelfModel}
+use Rattle.cweb_lines.specs.Lines.{Line}
+use Rattle.cweb_lines.specs.Events.{Event}
+use Rattle.cweb_lines.specs.surface.MergeProgress.{SoFar, EmitsLines}
+use Rattle.cweb_lines.specs.declared.merge_state.MergeState.{MergeState}
+use Rattle.cweb_scan.specs.inner.ReaderModel.{ReaderModel, read_after, cost, Between, TakesPrefix, weight}
+use Rattle.cweb_scan.specs.surface.Scan.{web_size, AreLinesBelow}
+use Rattle.cweb_scan.specs.Lexemes.{Scanned, read_lines}
+use Rattle.cweb_lines.specs.inner.Ahead.{IsAhead}
+use Rattle.cweb_lines.specs.surface.OpenedFileNames.{opened_file_names}
+use Rattle.cweb_lines.specs.inner.Passing.{ComesNext, lines_next, with_newlines, top_of}
+use Rattle.cweb_lines.specs.declared.merger.ahead.Ahead.{Ahead}
+use Rattle.cweb_store.specs.surface.Tokens.{too_many}
+use Rattle.cweb_store.specs.Parts.{Token, is_layout}
+use Rattle.cweb_scan.specs.declared.directive.Last.TheVariants as last
+
+-- The result of a scan if no line follows.
+abbrev pub scanned_after : ReaderModel → Scanned
+scanned_after reader = scanned_of (read_after reader []).state
+
+-- The reader has taken the merger's lines so far: more lines give what all lines together give.
+pub record HasTaken {R : Type 0} (shelf : ShelfModel R) (old reported : SoFar)
+    (all now : ShelfContents R → List Event) (reader : ReaderModel) : Type 0 where
+  pub lines : List Line
+  pub read_is : (more : List Line) → read_after reader more ≡ read_lines (lines ++ more)
+  pub below : AreLinesBelow (length reported.names) lines
+  pub few : web_size lines ≤ reported.count.bytes + reported.count.lines
+  pub yields : Observed shelf (λ seen. EmitsLines lines old reported (all seen) (now seen))
+
+-- The reader has read lines of the innermost file.
+pub record ReadsLines {R : Type 0} (run : MergeState R) (lines : List (List ℕ)) (old new : ReaderModel) : Type 0 where
+  pub read : (more : List Line) →
+      read_after new more ≡ read_after old (lines_next (top_of run.stack) lines ++ more)
+  pub below : AreLinesBelow (length (opened_file_names run.names)) (lines_next (top_of run.stack) lines)
+  pub few : web_size (lines_next (top_of run.stack) lines) ≤ length (with_newlines lines) + length lines
+  pub adds : cost new ≤ cost old + 3 * (length (with_newlines lines) + length lines)
+
+-- They are all lines up to the last one that was looked at.
+pub record ReadsAhead {R : Type 0} (run : MergeState R) (lines : List (List ℕ)) (ahead : Ahead)
+    (old new : ReaderModel) : Type 0 where
+  pub comes : ComesNext run ahead.stretch lines
+  pub read : ReadsLines run lines old new
+  pub some : 0 < length lines
+  pub count : ahead.stretch.lines ≡ length lines
+  pub is : IsAhead run ahead
+
+-- In limbo and TeX every byte but `@` is skipped.
+abbrev pub is_skipped : ℕ → Bool
+is_skipped b = not (b == 64)
+
+-- The number of bytes that were taken, if any.
+abbrev pub taken_size : Option ℕ → ℕ
+taken_size None = 0
+taken_size (Some n) = n
+
+-- C text without an open directive.
+pub record IsPlainC (s : ScanState) : Type 0 where
+  pub in_c : s.context ≡ CText
+  pub outside : in_directive s ≡ false
+
+-- C text without an open directive, with room for a token.
+pub record HasPlainRoom (s : ScanState) : Type 0 where
+  pub in_c : IsPlainC s
+  pub room : weight s + 1 < too_many
+
+-- A token that is neither layout nor `#` nor `\`.
+pub record IsPlainToken (t : Token) : Type 0 where
+  pub hash : is_punct (codes "#") (Some t) ≡ false
+  pub last : last_kind t ≡ last.Other
+  pub solid : is_layout t ≡ false
+
+-- The first n bytes of the rest of a line were taken, and no item is open.
+pub record TakesPlain (n : ℕ) (rest : List ℕ) (old new : ScanState) : Type 0 where
+  pub taken : (begun : Bool)
+      → TakesPrefix n rest (record { state = old; item = Between; begun = begun })
+      (record { state = new; item = Between; begun = begun })
+
+-- The first n bytes of the rest of a line were taken, and no directive is open after them.
+pub record PassesPlain (n : ℕ) (rest : List ℕ) (old new : ScanState) : Type 0 where
+  pub taken : TakesPlain n rest old new
+  pub stays : IsPlainC new
 
 -- The state after the next lexeme, if it ends in its line and no head is open.
 abbrev pub after_match : RuleMatch → List ℕ → ScanState → ScanState
@@ -75,66 +155,31 @@ ends_in_line rule.Punctuator = true
 ends_in_line r = false
 
 abbrev pub is_head : Context → Bool
-is_head c = elim c [ Limbo ↦ false | TeX ↦ false | Definition begun ↦ true | Macro ↦ false | CText ↦ false ]
+is_head c = elim c [ Definition begun ↦ true | _ ↦ false ]
 
 -- C text, a macro or a head.
 abbrev pub reads_c : Context → Bool
-reads_c Limbo = false
-reads_c TeX = false
-reads_c (Definition begun) = true
-reads_c Macro = true
-reads_c CText = true
+reads_c c = elim c [ Limbo ↦ false | TeX ↦ false | _ ↦ true ]
 
 -- Names occur outside limbo.
 abbrev pub reads_names : Context → Bool
-reads_names Limbo = false
-reads_names TeX = true
-reads_names (Definition begun) = true
-reads_names Macro = true
-reads_names CText = true
+reads_names c = elim c [ Limbo ↦ false | _ ↦ true ]
 
 -- A name begins with `@<`, that of a file with `@(`.
 abbrev pub starts_name : List ℕ → Bool
 starts_name t = begins (codes "@<") t || begins (codes "@(") t
 
--- A head has no literals.
-abbrev pub reads_literals : Context → Bool
-reads_literals Limbo = false
-reads_literals TeX = false
-reads_literals (Definition begun) = false
-reads_literals Macro = true
-reads_literals CText = true
-
--- No rule before the literals applies.
-pub record IsPast (t : List ℕ) : Type 0 where
-  pub blank : first_is is_blank t ≡ false
-  pub line_end : first_is is_line_end t ≡ false
-  pub comment : begins (codes "/*") t ≡ false
-  pub line_comment : begins (codes "//") t ≡ false
-  pub section : starts_section t ≡ false
-  pub code : begins (codes "@") t ≡ false
-
 -- The lexeme of a line comment has at least two bytes.
 abbrev pub needs_two : Rule → Bool
-needs_two rule.LineComment = true
-needs_two r = false
+needs_two r = elim r [ rule.LineComment ↦ true | _ ↦ false ]
 
 -- The code of a name.
 abbrev pub is_name_effect : Effect → Bool
-is_name_effect effect.Named = true
-is_name_effect e = false
+is_name_effect e = elim e [ effect.Named ↦ true | _ ↦ false ]
 
 -- A `\` at the end of a line emits nothing in a macro.
 abbrev pub ends_macro_line : Context → List ℕ → Bool
-ends_macro_line c t =
-    elim c [
-      | Limbo ↦ false
-      | TeX ↦ false
-      | Definition begun ↦ false
-      | Macro ↦ begins (codes "\\") t && at_line_end
-          (drop 1 t)
-      | CText ↦ false
-    ]
+ends_macro_line c t = elim c [ Macro ↦ begins (codes "\\") t && at_line_end (drop 1 t) | _ ↦ false ]
 
 -- Only C text has included names.
 abbrev pub rule_in : ScanState → List ℕ → Rule

@@ -3,19 +3,21 @@ use Rattle.std.specs.Prelude.{◌≡◌, ℕ, ◌+◌, Bool, true, false, List, 
 use Rattle.cweb_files.specs.declared.place.Place.{Place}
 use Rattle.cweb_rules.specs.Bytes.{begins}
 use Rattle.cweb_rules.specs.Items.{reach}
-use Rattle.cweb_rules.specs.Matches.{RuleMatch, quoted_match, starts_literal, starts_raw}
+use Rattle.cweb_rules.specs.declared.end.End.TheVariants.{Cut}
+use Rattle.cweb_rules.specs.Matches.{RuleMatch, quoted_match}
 use Rattle.cweb_rules.specs.declared.context.Context.{Context}
 use Rattle.cweb_rules.specs.declared.context.Context.TheVariants.{Limbo, TeX, Definition, Macro, CText}
-use Rattle.cweb_rules.specs.declared.end.End.TheVariants.{Cut}
+use Rattle.cweb_rules.specs.Literals.{starts_literal, starts_raw}
 use Rattle.cweb_rules.specs.declared.items.Item.{Item}
-use Rattle.cweb_rules.specs.inner.LineItems.{opens_in, look_of}
+use Rattle.cweb_rules.specs.inner.LineItems.{opens_in, look_of, IsPast}
 use Rattle.cweb_rules.specs.laws.Laws.{at_line_ends}
 use Rattle.cweb_scan.specs.Effects.{literal_unit}
 use Rattle.cweb_scan.specs.State.{ScanState}
 use Rattle.cweb_scan.specs.declared.reader.open.Open.{Open}
 use Rattle.cweb_scan.specs.declared.reader.open.Open.TheVariants.{Between, Comment, Name, Literal, RawLiteral}
-use Rattle.cweb_scan.specs.inner.MatchSteps.{is_head, reads_c, reads_names, reads_literals, starts_name, IsPast}
+use Rattle.cweb_scan.specs.inner.MatchSteps.{is_head, reads_c, reads_names, starts_name}
 use Rattle.cweb_scan.specs.inner.ReaderModel.{OpenItem, HasItemRoom}
+use Rattle.cweb_scan.specs.inner.ScanParts.{in_open_part}
 use Rattle.cweb_scan.specs.inner.ReaderModel as model
 use Rattle.cweb_scan.specs.laws.Laws.{next_match}
 
@@ -31,9 +33,9 @@ abbrev pub IsItem : Open → Context → List ℕ → Type 0
 IsItem Between c text = Unit {0}
 IsItem Comment c text = (reads_c c ≡ true) × (begins (codes "/*") text ≡ true)
 IsItem Name c text = (reads_names c ≡ true) × (is_head c ≡ false) × (starts_name text ≡ true)
-IsItem Literal c text = (reads_literals c ≡ true) × IsPast text × (starts_raw text ≡ false)
+IsItem Literal c text = (in_open_part c ≡ true) × IsPast text × (starts_raw text ≡ false)
     × (starts_literal text ≡ true)
-IsItem RawLiteral c text = (reads_literals c ≡ true) × IsPast text × (starts_raw text ≡ true)
+IsItem RawLiteral c text = (in_open_part c ≡ true) × IsPast text × (starts_raw text ≡ true)
 
 -- It is still open at the end of its source so far, whose newlines have these places after them.
 pub record IsPending (kind : Open) (c : Context) (text : List ℕ) (places : List Place) : Type 0 where
@@ -54,7 +56,7 @@ pub record CanTake (kind : Open) (text : List ℕ) (places : List Place) (s : Sc
 
 -- In C text a part opener is read as C text.
 abbrev pub takes_opener : ScanState → Bool
-takes_opener s = elim s.context [ Limbo ↦ true | TeX ↦ true | Definition begun ↦ true | Macro ↦ true | CText ↦ false ]
+takes_opener s = elim s.context [ CText ↦ false | _ ↦ true ]
 
 -- A literal with an opener of this size.
 abbrev pub quoted_as : ℕ → Item → List ℕ → RuleMatch

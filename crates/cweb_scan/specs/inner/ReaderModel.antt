@@ -1,11 +1,10 @@
 -- The model of a reader: the state, an item that is open at the end of a line, and the room in the store.
 use Rattle.std.specs.Prelude.{◌≡◌, ◌<◌, ℕ, ◌+◌, true, length, ◌≤◌, ◌*◌, Bool, false, List, [], ◌∷◌, ◌++◌, drop}
-use Rattle.cweb_store.specs.surface.Names.{too_many}
-use Rattle.cweb_store.specs.surface.Tokens.{token_count, part_count}
+use Rattle.cweb_store.specs.surface.Tokens.{too_many, token_count, part_count}
 use Rattle.cweb_scan.specs.State.{ScanState, move_to, start_state}
 use Rattle.cweb_scan.specs.inner.ScanParts.{in_open_part, no_place}
-use Rattle.cweb_files.specs.declared.place.Place.{Place}
 use Rattle.cweb_lines.specs.Lines.{Line}
+use Rattle.cweb_files.specs.declared.place.Place.{Place}
 use Rattle.cweb_rules.specs.inner.LineItems.{AtLineEnd, IsLine}
 use Rattle.cweb_scan.specs.Effects.{Reading}
 use Rattle.cweb_scan.specs.Lexemes.{lex, read_lines}

@@ -1,25 +1,24 @@
 -- Parts of the definitions of a scan, and the code's directive state.
 use Rattle.std.specs.Prelude.{ℕ, Bool, List, [], ◌-◌, Option, Some, None, length, take, codes, if◌then◌else◌, true}
-use Rattle.std.specs.Prelude.{false, ◌&&◌, not, bytes_eq, ◌≡◌}
+use Rattle.std.specs.Prelude.{false, ◌&&◌, not, bytes_eq, ◌≡◌, is_some}
 use Rattle.std.specs.List.{list_all}
 use Rattle.std.specs.Option.{option_map_or}
+use Rattle.cweb_store.specs.Parts.{Token, Part, Punct, Newline, is_blank, Word, Blank, Mark, is_macro, is_layout}
+use Rattle.cweb_store.specs.Parts.{without_last}
 use Rattle.cweb_files.specs.declared.place.Place.{Place}
 use Rattle.cweb_store.specs.Names.{Occurrence, is_abbreviation}
 use Rattle.cweb_store.specs.declared.name.How.TheVariants.{Full, Prefix}
-use Rattle.cweb_store.specs.Parts.{Token, Part, Punct, Newline, is_blank, Word, Blank, Mark, is_macro, is_layout}
-use Rattle.cweb_store.specs.Parts.{without_last}
 use Rattle.cweb_rules.specs.declared.context.Context.{Context}
 use Rattle.cweb_rules.specs.declared.context.Context.TheVariants.{Definition, Macro, CText, Limbo, TeX}
 use Rattle.cweb_store.specs.Calls.{finished}
 use Rattle.cweb_scan.specs.Lexemes.{Scanned}
-use Rattle.cweb_scan.specs.State.{ScanState, leave, is_c}
+use Rattle.cweb_scan.specs.State.{ScanState, leave, is_c, is_bare_include, is_punct}
 use Rattle.cweb_scan.specs.declared.directive.Last.{Last}
 use Rattle.cweb_scan.specs.declared.directive.Stage.{Stage}
 use Rattle.cweb_scan.specs.declared.directive.Stage.TheVariants.{Outside, Bare, Include, Further}
 use Rattle.cweb_scan.specs.declared.directive.Directive.{Directive}
-use Rattle.cweb_scan.specs.DirectiveTokens.{is_bare_include, is_punct}
 use Rattle.cweb_scan.specs.declared.directive.Last.TheVariants as last
-use Rattle.cweb_scan.specs.DirectiveTokens as spec
+use Rattle.cweb_scan.specs.State as spec
 
 -- The directive has only Blanks.
 abbrev pub is_bare : List Token → Bool
@@ -60,8 +59,7 @@ last_kind (Mark place) = last.LineEnd
 last_kind t = last.Other
 
 abbrev pub maybe_last_kind : Option Token → Last
-maybe_last_kind None = last.Other
-maybe_last_kind (Some t) = last_kind t
+maybe_last_kind token = option_map_or last_kind token last.Other
 
 abbrev pub stage_of : Option (List Token) → Stage
 stage_of None = Outside
@@ -71,36 +69,30 @@ abbrev pub directive_model : spec.Directive → Directive
 directive_model d = record { stage = stage_of d.tokens; last = maybe_last_kind d.last }
 
 abbrev pub is_after_line_end : Last → Bool
-is_after_line_end l = elim l [ last.LineEnd ↦ true | last.Backslash ↦ false | last.Blank ↦ false | last.Other ↦ false ]
+is_after_line_end l = elim l [ last.LineEnd ↦ true | _ ↦ false ]
 
 abbrev pub is_after_backslash : Last → Bool
-is_after_backslash l = elim l [ last.LineEnd ↦ false | last.Backslash ↦ true | last.Blank ↦ false | last.Other ↦ false ]
+is_after_backslash l = elim l [ last.Backslash ↦ true | _ ↦ false ]
 
 abbrev pub continues_line : Last → Token → Bool
-continues_line l Newline = is_after_backslash l
-continues_line l t = false
+continues_line l t = elim t [ Newline ↦ is_after_backslash l | _ ↦ false ]
 
 abbrev pub is_outside : Stage → Bool
-is_outside g = elim g [ Outside ↦ true | Bare ↦ false | Include ↦ false | Further ↦ false ]
+is_outside g = elim g [ Outside ↦ true | _ ↦ false ]
 
 abbrev pub is_bare_stage : Stage → Bool
-is_bare_stage g = elim g [ Outside ↦ false | Bare ↦ true | Include ↦ false | Further ↦ false ]
+is_bare_stage g = elim g [ Bare ↦ true | _ ↦ false ]
 
 abbrev pub is_include_stage : Stage → Bool
-is_include_stage g = elim g [ Outside ↦ false | Bare ↦ false | Include ↦ true | Further ↦ false ]
+is_include_stage g = elim g [ Include ↦ true | _ ↦ false ]
 
 abbrev pub is_include_word : Token → Bool
-is_include_word (Word b) = bytes_eq b (codes "include")
-is_include_word t = false
-
-abbrev pub is_blank_token : Token → Bool
-is_blank_token Blank = true
-is_blank_token t = false
+is_include_word t = elim t [ Word b ↦ bytes_eq b (codes "include") | _ ↦ false ]
 
 -- The stage of an open directive after one more token.
 abbrev pub next_open_stage : Stage → Token → Stage
 next_open_stage g t =
-    if is_blank_token t then g else (if is_include_word t && is_bare_stage g then Include else Further)
+    if is_blank t then g else (if is_include_word t && is_bare_stage g then Include else Further)
 
 abbrev pub next_stage : Directive → Token → Stage
 next_stage d t =
@@ -118,23 +110,17 @@ new_directive = record { stage = Outside; last = last.Other }
 abbrev pub after_tokens : List Token → Directive
 after_tokens ts = directive_model (spec.directive_of ts)
 
--- Whether a part is open.
-abbrev pub is_part_open : Option Part → Bool
-is_part_open None = false
-is_part_open (Some p) = true
-
 abbrev pub is_open_macro : Option Part → Bool
-is_open_macro None = false
-is_open_macro (Some p) = is_macro p.kind
+is_open_macro part = option_map_or (λ (p : Part). is_macro p.kind) part false
 
 -- A macro and a C part are parts of the store.
 abbrev pub in_open_part : Context → Bool
-in_open_part c = elim c [ Limbo ↦ false | TeX ↦ false | Definition begun ↦ false | Macro ↦ true | CText ↦ true ]
+in_open_part c = elim c [ Macro ↦ true | CText ↦ true | _ ↦ false ]
 
 -- A part is open exactly in a macro and in C text. In C text, `directive` is that of the part's tokens, and `solid`
 -- that of the tokens without trailing layout.
 pub record IsTied (directive solid : Directive) (context : Context) (part : Option Part) : Type 0 where
-  pub part_is_open : is_part_open part ≡ in_open_part context
+  pub part_is_open : is_some part ≡ in_open_part context
   pub is_no_macro : is_c context ≡ true → is_open_macro part ≡ false
   pub directive_is : is_c context ≡ true → directive ≡ after_tokens (tokens_of part)
   pub solid_is : is_c context ≡ true → solid ≡ after_tokens (without_last is_layout (tokens_of part))

@@ -1,13 +1,13 @@
 -- Laws of lexemes: their list, their places, what they count, and tokens that stand alone.
-use Rattle.std.specs.Prelude.{◌≡◌, ◌<◌, ℕ, Bool, true, List, [], ◌∷◌, ◌++◌, length, All, map, Some, ◌+◌}
-use Rattle.std.specs.Prelude.{Option, None, filter_map, if◌then◌else◌, false}
+use Rattle.std.specs.Prelude.{◌≡◌, ◌<◌, ℕ, Bool, true, List, [], ◌∷◌, ◌++◌, length, All, map, Some, ◌+◌, Option, None}
+use Rattle.std.specs.Prelude.{filter_map, if◌then◌else◌, false}
+use Rattle.cweb_lines.specs.Lines.{Line}
 use Rattle.cweb_files.specs.declared.place.Place.{Place}
 use Rattle.cweb_store.specs.Parts.{Token, Mark, all_tokens, Word, Number, Punct}
 use Rattle.cweb_rules.specs.Matches.{Lexeme, RuleMatch, match_in, Kind, Section, Occurrence}
 use Rattle.cweb_scan.specs.State.{ScanState, names_include, start_state, name_occurrence}
 use Rattle.cweb_scan.specs.Effects.{Reading, after_lexeme}
 use Rattle.cweb_scan.specs.Lexemes.{Scanned, lexemes_in, scanned, lex, HasReadTokens}
-use Rattle.cweb_lines.specs.Lines.{Line}
 use Rattle.std.specs.List.{flat_map, fold, slice_get}
 use Rattle.cweb_rules.specs.laws.Laws.{at_line_ends, after_word, after_number, joins_last}
 use Rattle.cweb_rules.specs.Items.{unescaped}

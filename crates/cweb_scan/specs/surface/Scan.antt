@@ -5,9 +5,9 @@ use Rattle.cweb_store.specs.Parts.{all_tokens, Token, Mark}
 use Rattle.cweb_store.specs.Calls.{Stored}
 use Rattle.cweb_store.specs.surface.Tokens.{uninterned_store_bytes}
 use Rattle.cweb_lines.specs.Events.{Event, emitted_lines}
+use Rattle.cweb_lines.specs.declared.limits.TheConstants.{LINES, BYTES}
 use Rattle.cweb_lines.specs.surface.MergeProgress.{SoFar, EmitsLines, StopsAfterLines, ReportsPrefix}
 use Rattle.cweb_lines.specs.surface.OpenSources.{StopsFor, StopsReading}
-use Rattle.cweb_lines.specs.declared.limits.TheConstants.{LINES, BYTES}
 use Rattle.cweb_lines.specs.declared.stop.Stop.{Stop}
 use Rattle.cweb_scan.specs.Lexemes.{Scanned, scanned}
 use Rattle.cweb_scan.specs.declared.scanner.scanned.Scanned as code

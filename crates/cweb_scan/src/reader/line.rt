@@ -1,6 +1,6 @@
 // Takes the bytes of a line, step by step.
 ghost use Rattle.std.specs.Prelude.{◌≡◌, ◌≤◌, ◌<◌, ◌+◌, ◌*◌, IfOk, OnOk, length, true};
-ghost use Rattle.cweb_store.specs.surface.Names.{too_many};
+ghost use Rattle.cweb_store.specs.surface.Tokens.{too_many};
 
 use crate::reader::Reader;
 use crate::rest::Rest;
@@ -8,8 +8,7 @@ use std::alloc::AllocError;
 
 impl Reader {
     ghost use Rattle.cweb_rules.specs.inner.LineItems.{IsLine};
-    ghost use Rattle.cweb_scan.specs.inner.ReaderModel.{cost, is_pending, Between, TakesBytes};
-    ghost use Rattle.cweb_scan.specs.inner.ReaderModel.{MakesProgress};
+    ghost use Rattle.cweb_scan.specs.inner.ReaderModel.{cost, is_pending, Between, TakesBytes, MakesProgress};
 
     // One step: a run of plain C text and the lexeme after it. Returns its size.
     fn take_step(&mut self, rest: Rest<'_>) -> Result<usize, AllocError>

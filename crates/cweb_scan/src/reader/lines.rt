@@ -1,6 +1,6 @@
 // Takes lines in order.
 ghost use Rattle.std.specs.Prelude.{◌≡◌, ◌≤◌, ◌<◌, ◌+◌, [], IfOk, OnOk, length};
-ghost use Rattle.cweb_store.specs.surface.Names.{too_many};
+ghost use Rattle.cweb_store.specs.surface.Tokens.{too_many};
 
 use crate::reader::Reader;
 use crate::reader::open::Open;
@@ -13,11 +13,9 @@ use std::alloc::AllocError;
 impl Reader {
     ghost use Rattle.std.specs.List.{prefix_len};
     ghost use Rattle.std.specs.Prelude.{true, false, IsTrue};
-    ghost use Rattle.cweb_scan.specs.inner.FastPaths.{is_skipped};
-    ghost use Rattle.cweb_scan.specs.inner.MatchSteps.{reads_c};
-    ghost use Rattle.cweb_scan.specs.inner.ReaderModel.{cost, gone_to, read_after, Between};
-    ghost use Rattle.cweb_scan.specs.inner.ReaderModel.{source_ended, BeginsLine, HasLineRoom};
-    ghost use Rattle.cweb_scan.specs.inner.ReaderModel.{TakesLine, weight};
+    ghost use Rattle.cweb_scan.specs.inner.MatchSteps.{is_skipped, reads_c};
+    ghost use Rattle.cweb_scan.specs.inner.ReaderModel.{cost, gone_to, read_after, Between, source_ended, BeginsLine};
+    ghost use Rattle.cweb_scan.specs.inner.ReaderModel.{HasLineRoom, TakesLine, weight};
 
     // Begins a line: the first one, or one after a newline. Returns the number of its bytes that a pending item takes.
     fn begin_line(&mut self, place: Place, line: &[u8]) -> Result<usize, AllocError>

@@ -16,7 +16,7 @@ impl Reader {
     ghost use Rattle.cweb_scan.specs.inner.MatchSteps.{is_head, reads_c, ends_macro_line, rule_in};
     ghost use Rattle.cweb_scan.specs.inner.ReaderModel.{AwaitsLexeme, MakesProgress};
     ghost use Rattle.cweb_rules.specs.declared.context.Context.TheVariants as context;
-    ghost use Rattle.cweb_rules.specs.inner.Rules as spec;
+    ghost use Rattle.cweb_rules.specs.Matches as spec;
     ghost use Rattle.cweb_rules.specs.declared.rule.Rule.TheVariants as rule;
     ghost use Rattle.cweb_scan.specs.inner.ScanParts.{in_open_part};
 

@@ -5,16 +5,17 @@ use crate::reader::Reader;
 use crate::reader::open::Open;
 use crate::reader::opened::is_unclosed;
 use crate::rest::Rest;
+use cweb_rules::continues;
 use cweb_rules::items::{Item, reach, reach_after};
-use cweb_rules::literals::{literal_prefix, raw_closer, raw_opener_len};
-use cweb_rules::{Quote, continues};
+use cweb_rules::literals::{literal_prefix, quote_of, raw_closer, raw_opener_len};
 use std::alloc::AllocError;
 
 impl Reader {
     ghost use Rattle.cweb_rules.specs.Bytes as spec;
-    ghost use Rattle.cweb_rules.specs.Matches.{starts_raw, starts_literal};
-    ghost use Rattle.cweb_scan.specs.inner.MatchSteps.{is_head, reads_c, reads_names, reads_literals};
-    ghost use Rattle.cweb_scan.specs.inner.MatchSteps.{starts_name, IsPast};
+    ghost use Rattle.cweb_rules.specs.Literals.{starts_raw, starts_literal};
+    ghost use Rattle.cweb_rules.specs.inner.LineItems.{IsPast};
+    ghost use Rattle.cweb_scan.specs.inner.MatchSteps.{is_head, reads_c, reads_names, starts_name};
+    ghost use Rattle.cweb_scan.specs.inner.ScanParts.{in_open_part};
     ghost use Rattle.cweb_scan.specs.inner.ReaderModel.{AwaitsLexeme, MakesProgress};
 
     /// `/*`. Like the functions below, it returns the number of bytes taken.
@@ -54,15 +55,15 @@ impl Reader {
     /// A quote with an optional prefix.
     #[inline(never)]
     pub(crate) fn open_literal(&mut self, rest: Rest<'_>) -> Result<usize, AllocError>
-        requires next { AwaitsLexeme (reads_literals self.old.state.context ≡ true) self.old }
+        requires next { AwaitsLexeme (in_open_part self.old.state.context ≡ true) self.old }
         requires past { IsPast rest.bytes.now }
         requires plain { starts_raw rest.bytes.now ≡ false }
         requires opens { starts_literal rest.bytes.now ≡ true }
         ensures { IfOk result (λ n. MakesProgress n rest.entry.bytes.now self.old self.new) }
     {
         let prefix = literal_prefix(rest.bytes);
-        let quote = Quote::of(rest.bytes.split_at(prefix).1);
-        if continues(quote.byte(), rest.bytes.split_at(prefix + 1).1) {
+        let quote = quote_of(rest.bytes.split_at(prefix).1);
+        if continues(quote, rest.bytes.split_at(prefix + 1).1) {
             self.hold(Open::Literal, rest.bytes)?;
             return Ok(rest.bytes.len());
         }
@@ -72,7 +73,7 @@ impl Reader {
     /// `R"` with an optional prefix, a delimiter and `(`.
     #[inline(never)]
     pub(crate) fn open_raw(&mut self, rest: Rest<'_>) -> Result<usize, AllocError>
-        requires next { AwaitsLexeme (reads_literals self.old.state.context ≡ true) self.old }
+        requires next { AwaitsLexeme (in_open_part self.old.state.context ≡ true) self.old }
         requires past { IsPast rest.bytes.now }
         requires opens { starts_raw rest.bytes.now ≡ true }
         ensures { IfOk result (λ n. MakesProgress n rest.entry.bytes.now self.old self.new) }

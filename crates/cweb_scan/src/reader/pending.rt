@@ -5,9 +5,9 @@ use crate::reader::Reader;
 use crate::reader::open::Open;
 use crate::reader::opened::is_unclosed;
 use cweb_files::Place;
+use cweb_rules::continues;
 use cweb_rules::items::{Item, reach};
-use cweb_rules::literals::{literal_prefix, raw_closer};
-use cweb_rules::{Quote, continues};
+use cweb_rules::literals::{literal_prefix, quote_of, raw_closer};
 use std::alloc::AllocError;
 
 impl Reader {
@@ -48,8 +48,8 @@ impl Reader {
             Open::Name => Ok(is_unclosed(reach(Item::Name, line).how)),
             Open::Literal => {
                 let prefix = literal_prefix(&self.pending);
-                let quote = Quote::of(self.pending.split_at(prefix).1);
-                Ok(continues(quote.byte(), line))
+                let quote = quote_of(self.pending.split_at(prefix).1);
+                Ok(continues(quote, line))
             }
             Open::RawLiteral => {
                 let closer = raw_closer(self.alloc, &self.pending)?;

@@ -23,8 +23,7 @@ pub fn ended(at_end: End, how: End) -> End
 
 impl Scanner {
     ghost use Rattle.cweb_rules.specs.Matches.{section_match, control_text_match, verbatim_match, constant_match};
-    ghost use Rattle.cweb_rules.specs.Matches.{letter_match, effect_match};
-    ghost use Rattle.cweb_rules.specs.Matches.{line_comment_match};
+    ghost use Rattle.cweb_rules.specs.Matches.{letter_match, effect_match, line_comment_match};
     ghost use Rattle.cweb_scan.specs.Effects as spec;
     ghost use Rattle.cweb_scan.specs.inner.ReaderModel.{CanEmit, HasItemRoom};
 

@@ -1,6 +1,6 @@
 // Fast path for C text outside directives: whole lexemes that their first byte doesn't determine.
 ghost use Rattle.std.specs.Prelude.{◌≡◌, ◌≤◌, ◌<◌, ◌+◌, IfOk, false, length};
-ghost use Rattle.cweb_scan.specs.inner.FastPaths.{HasPlainRoom, IsPlainC, PassesPlain, TakesPlain};
+ghost use Rattle.cweb_scan.specs.inner.MatchSteps.{HasPlainRoom, IsPlainC, PassesPlain, TakesPlain};
 ghost use Rattle.cweb_rules.specs.inner.Rules.{stops_plain};
 
 use crate::rest::Rest;
@@ -8,17 +8,17 @@ use crate::scanner::Scanner;
 use crate::skipped::skipped_len;
 use cweb_rules::bytes::{Class, span_len};
 use cweb_rules::items::{Item, reach};
-use cweb_rules::literals::literal_prefix;
+use cweb_rules::literals::{literal_prefix, quote_of};
 use cweb_rules::numbers::number_len;
 use cweb_rules::punctuators::punctuator_len;
 use cweb_rules::rule::{Rule, c_rule};
-use cweb_rules::{End, Quote, quoted_len};
+use cweb_rules::{End, quoted_len};
 use cweb_store::Token;
 use std::alloc::AllocError;
 
 impl Scanner {
     ghost use Rattle.cweb_rules.specs.Edges.{first_is};
-    ghost use Rattle.cweb_rules.specs.inner.Rules as spec;
+    ghost use Rattle.cweb_rules.specs.Matches as spec;
     ghost use Rattle.cweb_rules.specs.declared.rule.Rule.TheVariants as rule;
 
     #[inline(always)]
@@ -95,7 +95,7 @@ impl Scanner {
         ensures { IfOk result (λ n. PassesPlain n rest.entry.bytes.now self.old self.new) }
     {
         let prefix = literal_prefix(rest.bytes);
-        let quote = Quote::of(rest.bytes.split_at(prefix).1);
+        let quote = quote_of(rest.bytes.split_at(prefix).1);
         match quoted_len(quote, rest.bytes.split_at(prefix + 1).1) {
             Some(inner) => {
                 let size = prefix + 1 + (inner + 1);

@@ -1,7 +1,7 @@
 // Comments and names, each as one slice of the source: from the opener on, over any number of lines.
 ghost use Rattle.std.specs.Prelude.{codes, ◌≡◌, ◌≤◌, ◌<◌, ◌+◌, IfOk, OnOk, length, take, drop};
 ghost use Rattle.std.specs.List.{prefix_len};
-ghost use Rattle.cweb_store.specs.surface.Names.{too_many};
+ghost use Rattle.cweb_store.specs.surface.Tokens.{too_many};
 ghost use Rattle.cweb_rules.specs.laws.Laws.{at_line_ends};
 ghost use Rattle.cweb_rules.specs.Bytes as bytes;
 ghost use Rattle.cweb_rules.specs.Items as spec;

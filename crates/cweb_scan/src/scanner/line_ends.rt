@@ -10,11 +10,10 @@ use cweb_store::Token;
 use std::alloc::AllocError;
 
 impl Scanner {
-    ghost use Rattle.cweb_store.specs.surface.Names.{too_many};
-    ghost use Rattle.cweb_store.specs.surface.Tokens.{token_count};
+    ghost use Rattle.cweb_store.specs.surface.Tokens.{too_many, token_count};
     ghost use Rattle.cweb_scan.specs.Effects.{line_end, comment_line_end, line_end_token};
     ghost use Rattle.cweb_scan.specs.State.{is_c};
-    ghost use Rattle.cweb_scan.specs.inner.FastPaths.{IsPlainC};
+    ghost use Rattle.cweb_scan.specs.inner.MatchSteps.{IsPlainC};
     ghost use Rattle.cweb_store.specs.Parts.{Newline};
     ghost use Rattle.cweb_scan.specs.State as spec;
 

@@ -10,8 +10,8 @@ use crate::scanner::codes::ended;
 use crate::skipped::skipped_len;
 use cweb_files::Place;
 use cweb_rules::items::{Item, reach};
-use cweb_rules::literals::{literal_prefix, raw_closer, raw_opener_len};
-use cweb_rules::{End, Look, Quote, ScanKind, push_unit, push_units};
+use cweb_rules::literals::{literal_prefix, quote_of, raw_closer, raw_opener_len};
+use cweb_rules::{End, Look, ScanKind, push_unit, push_units};
 use std::alloc::AllocError;
 
 // The number of newlines.
@@ -55,7 +55,8 @@ fn push_body(
 
 impl Scanner {
     ghost use Rattle.cweb_rules.specs.Items.{body};
-    ghost use Rattle.cweb_rules.specs.Matches.{literal_match, raw_match, starts_literal, starts_raw};
+    ghost use Rattle.cweb_rules.specs.Matches.{literal_match, raw_match};
+    ghost use Rattle.cweb_rules.specs.Literals.{starts_literal, starts_raw};
     ghost use Rattle.cweb_scan.specs.inner.MatchSteps.{AppliesOver};
     ghost use Rattle.cweb_scan.specs.inner.PendingItems.{quoted_as, PassesUnits};
     ghost use Rattle.cweb_scan.specs.inner.ReaderModel.{CanEmit};
@@ -163,8 +164,8 @@ impl Scanner {
             (λ n. AppliesOver (literal_match text.now) text.now places.now n self.old self.new) }
     {
         let prefix = literal_prefix(text);
-        let quote = Quote::of(text.split_at(prefix).1);
-        self.take_quoted(prefix + 1, Item::Literal(quote.byte()), text, places)
+        let quote = quote_of(text.split_at(prefix).1);
+        self.take_quoted(prefix + 1, Item::Literal(quote), text, places)
     }
 
     /// A raw literal with its prefix. Returns its size.

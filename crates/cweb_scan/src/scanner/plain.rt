@@ -1,9 +1,8 @@
 // Fast path for C text outside items and directives: lexemes whose rule is determined by their first byte.
 ghost use Rattle.std.specs.Prelude.{◌≡◌, ◌≤◌, ◌<◌, ◌+◌, ◌*◌, IfOk, IfSome, OnOk, OnErr, length};
-ghost use Rattle.cweb_store.specs.surface.Names.{too_many};
-ghost use Rattle.cweb_store.specs.surface.Tokens.{token_model};
-ghost use Rattle.cweb_scan.specs.inner.FastPaths.{taken_size, HasPlainRoom, IsPlainC, IsPlainToken};
-ghost use Rattle.cweb_scan.specs.inner.FastPaths.{PassesPlain, TakesPlain};
+ghost use Rattle.cweb_store.specs.surface.Tokens.{too_many, token_model};
+ghost use Rattle.cweb_scan.specs.inner.MatchSteps.{taken_size, HasPlainRoom, IsPlainC, IsPlainToken, PassesPlain};
+ghost use Rattle.cweb_scan.specs.inner.MatchSteps.{TakesPlain};
 
 use crate::directive::{Directive, Last, Stage};
 use crate::rest::Rest;

@@ -13,7 +13,7 @@ use std::alloc::AllocError;
 
 impl Scanner {
     ghost use Rattle.cweb_rules.specs.Codes.{in_c};
-    ghost use Rattle.cweb_rules.specs.inner.Rules.{c_match_by};
+    ghost use Rattle.cweb_rules.specs.Matches.{c_match_by};
     ghost use Rattle.cweb_scan.specs.inner.MatchSteps.{ends_in_line, needs_two, Applies};
     ghost use Rattle.cweb_scan.specs.inner.ReaderModel.{CanEmit};
 

@@ -3,7 +3,8 @@ use Rattle.std.specs.Prelude.{Option, None, Some, codes, if◌then◌else◌}
 use Rattle.std.specs.List.{list_any}
 use Rattle.cweb_store.specs.Parts.{Token, Word, Number, Literal, Verbatim, Punct, Blank, Newline}
 use Rattle.cweb_store.specs.declared.edges.Edge.TheVariants as edge_kind
-use Rattle.cweb_store.specs.inner.StringLists.{TokenBytesModel, is_high, punctuator_edge}
+use Rattle.cweb_store.specs.inner.StringLists.{TokenBytesModel, is_high}
+use Rattle.cweb_store.specs.surface.Tokens.{punctuator_edge}
 
 -- The bytes of a direct token, or `None`.
 abbrev pub direct_bytes : Token → Option TokenBytesModel

@@ -1,22 +1,19 @@
 -- The names so far, those that begin with a prefix, and what occurrences resolve to.
 use Rattle.std.specs.Prelude.{◌≡◌, ℕ, Bool, true, false, List, [], ◌∷◌, ◌+◌, Option, Some, None, map, filter, nat_eq}
-use Rattle.std.specs.Prelude.{bytes_eq, ◌||◌, if◌then◌else◌, ◌<◌, length, Ok, Err, slice_get, fold}
+use Rattle.std.specs.Prelude.{bytes_eq, ◌||◌, if◌then◌else◌, ◌<◌, length, Ok, Err, fold}
 use Rattle.std.specs.List.{starts_with, AllByRecursion, position_or_len, enumerate_from}
 use Rattle.std.specs.Map.{lookup}
 use Rattle.std.specs.Ordering.{is_eq, nat_cmp}
 use Rattle.std.specs.Cmp.Lexicographic.{slice_cmp}
 use Rattle.std.specs.declared.cmp.Ordering.{Ordering}
-use Rattle.cweb_store.specs.declared.name.NameId.{NameId}
+use Rattle.cweb_store.specs.Names.{NameId, Name, id, spellings, beginning, Occurrence, Resolution, with_full_name}
+use Rattle.cweb_store.specs.Names.{with_occurrence_name, with_file, Full, Prefix, Ambiguous, NeverFull}
 use Rattle.cweb_store.specs.declared.found.Found.{Found}
 use Rattle.cweb_store.specs.declared.found.Found.TheVariants.{Nothing, One, Several}
-use Rattle.cweb_store.specs.Names.{Name, id, spellings, beginning, Occurrence, Resolution, with_full_name}
-use Rattle.cweb_store.specs.Names.{with_occurrence_name, with_file}
-use Rattle.cweb_store.specs.laws.Names.{Distinct}
-use Rattle.cweb_store.specs.declared.name.How.TheVariants.{Full, Prefix}
-use Rattle.cweb_store.specs.declared.name.NameKind.TheVariants.{Ambiguous, NeverFull}
+use Rattle.cweb_store.specs.laws.Laws.{Distinct}
 use Rattle.cweb_store.specs.inner.StringLists.{string_at}
 use Rattle.cweb_store.specs.declared.table.OccurrenceForm.{OccurrenceForm}
-use Rattle.cweb_store.specs.surface.Names.{occurrence_of, too_many}
+use Rattle.cweb_store.specs.surface.Tokens.{occurrence_of, too_many}
 
 -- Whether these are no names, one or several.
 abbrev pub found_of : List NameId → Found
@@ -88,9 +85,6 @@ pub record IsNumbered (before : NamesSoFar) (text : List ℕ) (first : ℕ) (nam
   pub number : name.0 ≡ position_or_len (bytes_eq text) (spellings before.names)
   pub names : after.names ≡ with_full_name first before.names text
   pub strings : after.strings ≡ before.strings
-
-abbrev pub has_spelling_at : List Name → ℕ → List ℕ → Bool
-has_spelling_at names i text = elim (slice_get names i) [ Some n ↦ bytes_eq n.text text | None ↦ false ]
 
 -- The names that an occurrence fits among those before it and its own.
 abbrev pub early : List Name → Occurrence → Found

@@ -3,37 +3,11 @@ use Rattle.std.specs.Prelude.{◌≡◌, ℕ, ◌+◌, ◌≤◌, ◌<◌, List,
 use Rattle.std.specs.Prelude.{option_map, option_to_list, IsSome, ◌++◌, Bool, true, false, filter, take}
 use Rattle.cweb_store.specs.declared.parts.PartRange.{PartRange}
 use Rattle.cweb_store.specs.declared.parts.Open.{Open}
-use Rattle.cweb_store.specs.Parts.{Token, Part, without_layout, at_close, is_layout, is_newline}
+use Rattle.cweb_store.specs.Parts.{Token, Part, without_layout, at_close, is_layout, is_newline, PartKind}
 use Rattle.cweb_store.specs.Calls.{PartsSoFar, part_with_token}
-use Rattle.cweb_store.specs.surface.Names.{too_many}
-use Rattle.cweb_store.specs.declared.parts.PartKind.{PartKind}
+use Rattle.cweb_store.specs.surface.Tokens.{too_many, token_strings}
 use Rattle.cweb_store.specs.declared.tokens.layout.Trailing.{Trailing}
-use Rattle.cweb_store.specs.surface.Tokens.{token_strings}
 use Rattle.cweb_store.specs.declared.tokens.layout.Trailing.TheVariants as trailing
-
--- The room for tokens, and for the places of Marks, uses and Defs among them.
-pub record TokenRooms : Type 0 where
-  pub for_records : ℕ
-  pub for_places : ℕ
-  pub for_uses : ℕ
-  pub for_defs : ℕ
-
-pub record TokenListModel : Type 0 where
-  pub tokens : List Token
-  pub rooms : TokenRooms
-
--- The room for tokens and for closed parts.
-pub record Rooms : Type 0 where
-  pub for_tokens : TokenRooms
-  pub for_parts : ℕ
-
--- The parts so far, and the room for more.
-pub record PartListModel : Type 0 where
-  pub parts : PartsSoFar
-  pub rooms : Rooms
-
-abbrev pub in_rooms : PartsSoFar → TokenRooms → ℕ → PartListModel
-in_rooms v tokens parts = record { parts = v; rooms = record { for_tokens = tokens; for_parts = parts } }
 
 abbrev pub closed_in : List Token → PartRange → Part
 closed_in ts r = record { kind = r.kind; tokens = slice_range ts r.part.first r.part.after }
@@ -78,10 +52,6 @@ ranges_from n (p ∷ ps) =
 -- The range of the open part if it ends at `after`.
 abbrev pub last_range : Open → ℕ → PartRange
 last_range o after = record { kind = o.kind; part = record { first = o.first; after = after } }
-
--- No part.
-abbrev pub no_parts : PartsSoFar
-no_parts = record { closed = []; current = None }
 
 -- A new part is open.
 abbrev pub with_opened_part : PartKind → PartsSoFar → PartsSoFar

@@ -2,17 +2,15 @@
 use Rattle.std.specs.Prelude.{◌≡◌, ◌<◌, ◌≤◌, ℕ, ◌+◌, List, [], ◌∷◌, ◌++◌, length, map, slice_index_or, filter, bytes_eq}
 use Rattle.std.specs.Prelude.{Bool, true, false, Some, slice_get, slice_range, option_map, if◌then◌else◌}
 use Rattle.std.specs.List.{list_any}
-use Rattle.cweb_files.specs.declared.place.Place.{Place}
+use Rattle.cweb_store.specs.Parts.{Place, Token, is_defs}
 use Rattle.cweb_store.specs.inner.StringLists.{string_at, text_bytes}
 use Rattle.cweb_store.specs.inner.PartRanges.{has_string}
-use Rattle.cweb_store.specs.surface.Tokens.{with_word_of, other_bytes, interned_token_bytes, words_of}
+use Rattle.cweb_store.specs.surface.Tokens.{with_word_of, other_bytes, interned_token_bytes, words_of, total}
 use Rattle.cweb_store.specs.inner.StringTables.{StringTableModel, has_word}
-use Rattle.cweb_store.specs.surface.StringTables.{total}
 use Rattle.cweb_store.specs.declared.tokens.records.Record.{Record}
 use Rattle.cweb_store.specs.declared.tokens.records.Record.TheVariants.{Word, Number, Literal, Verbatim, Punct, Blank}
 use Rattle.cweb_store.specs.declared.tokens.records.Record.TheVariants.{Newline, Join, Defs, Name, Head, Tail, Mark}
 use Rattle.cweb_store.specs.declared.parts.Part.{Part}
-use Rattle.cweb_store.specs.Parts.{Token, is_defs}
 use Rattle.cweb_store.specs.declared.tokens.token_index.TokenIndex.{TokenIndex}
 use Rattle.cweb_store.specs.Parts as spec
 

@@ -3,21 +3,18 @@ use Rattle.std.specs.Prelude.{◌≡◌, ◌≤◌, ◌-◌, ◌+◌, ℕ, zero,
 use Rattle.std.specs.Prelude.{if◌then◌else◌, nat_lt, map, filter, ◌<◌, false, ◌||◌, get_or, IfSome, ◌^◌, Option, Some}
 use Rattle.std.specs.Prelude.{None, drop, slice_get, nat_eq}
 use Rattle.std.specs.List.{list_any}
-use Rattle.cweb_store.specs.declared.name.NameId.{NameId}
+use Rattle.cweb_store.specs.Names.{NameId, Resolution, resolved_at, Occurrence}
 use Rattle.cweb_store.specs.declared.parts.Part.{Part as Range}
-use Rattle.cweb_store.specs.declared.parts.PartKind.{PartKind}
+use Rattle.cweb_store.specs.Parts.{PartKind, is_of, is_unnamed, is_macro, Part, has_defs_code}
 use Rattle.cweb_store.specs.declared.parts.PartRange.{PartRange}
 use Rattle.cweb_store.specs.declared.parts.iter.Wanted.{Wanted}
 use Rattle.cweb_store.specs.declared.parts.iter.Wanted.TheVariants.{Program, OfName, Macros}
 use Rattle.cweb_store.specs.declared.parts.links.Heads.{Heads}
-use Rattle.cweb_store.specs.Names.{Resolution, resolved_at, Occurrence}
-use Rattle.cweb_store.specs.Parts.{is_of, is_unnamed, is_macro, Part, has_defs_code}
 use Rattle.cweb_store.specs.declared.table.OccurrenceForm.{OccurrenceForm}
 use Rattle.cweb_store.specs.declared.store.answers.Answers.{Answers}
-use Rattle.cweb_store.specs.surface.Names.{too_many}
+use Rattle.cweb_store.specs.surface.Tokens.{too_many, replacement_of, part_count, token_count}
 use Rattle.cweb_store.specs.inner.Known.{occurrences_at}
 use Rattle.cweb_store.specs.Calls.{Replacement, Stored, stored, Contents}
-use Rattle.cweb_store.specs.surface.Tokens.{replacement_of, part_count, token_count}
 use Rattle.cweb_store.specs.inner.PartRanges.{ranges_from}
 use Rattle.cweb_store.specs.declared.replacements.Replaced.{Replaced}
 use Rattle.cweb_store.specs.Names as spec

@@ -4,7 +4,7 @@ use Rattle.std.specs.List.{list_any}
 use Rattle.cweb_store.specs.declared.words.word.Word.{Word}
 use Rattle.cweb_store.specs.inner.StringLists.{text_bytes}
 use Rattle.cweb_store.specs.inner.Words.{Entries, AreInterned, word_string, entry_word}
-use Rattle.cweb_store.specs.surface.StringTables.{total, with_word}
+use Rattle.cweb_store.specs.surface.Tokens.{total, with_word}
 
 -- strings are numbered by 32 bits, so there are fewer than this
 abbrev pub string_limit : ℕ

@@ -1,26 +1,48 @@
 -- Laws of names and parts for any calls, and the calls as values.
 use Rattle.std.specs.Prelude.{◌+◌, ◌<◌, ◌≤◌, List, [], ◌∷◌, filter, length, map, IsSome, IsNone, fold, ◌≡◌, ℕ, Bool}
 use Rattle.std.specs.Prelude.{false, nat_eq, ◌++◌, Option, Some, None, Ok, slice_get, option_map, option_and_then}
-use Rattle.std.specs.Prelude.{filter_map, true, option_to_list, if◌then◌else◌, take, ◌⊎◌}
+use Rattle.std.specs.Prelude.{filter_map, true, option_to_list, if◌then◌else◌, take, ◌⊎◌, ◌≢◌, not, bytes_eq}
 use Rattle.cweb_store.specs.declared.call.Answered.{Answered}
 use Rattle.cweb_store.specs.surface.Tokens.{part_count, token_count, replacement_of, token_model, all_parts}
+use Rattle.cweb_store.specs.surface.Tokens.{occurrence_of, too_many}
 use Rattle.cweb_store.specs.Calls.{Contents, Replacement, empty, with_occurrence, with_open, with_token, with_dropped}
 use Rattle.cweb_store.specs.Calls.{with_closed, with_replacement}
-use Rattle.cweb_store.specs.surface.Names.{occurrence_of, too_many}
-use Rattle.cweb_store.specs.declared.parts.PartKind.{PartKind}
+use Rattle.cweb_store.specs.Parts.{PartKind, Token, Part, joined_where, at_close, is_layout, protected_count}
+use Rattle.cweb_store.specs.Parts.{without_layout, all_tokens}
 use Rattle.cweb_store.specs.Names.{Occurrence, names, beginning, resolutions, resolved_at, resolved_among, files, is_id}
-use Rattle.cweb_store.specs.Names.{Resolution, spellings}
-use Rattle.cweb_store.specs.Parts.{Token, Part, joined_where, at_close, is_layout, protected_count, without_layout}
-use Rattle.cweb_store.specs.Parts.{all_tokens}
+use Rattle.cweb_store.specs.Names.{Resolution, spellings, squeezed, NameId, Full, Prefix}
 use Rattle.std.specs.List.{starts_with, list_any, list_all}
-use Rattle.cweb_store.specs.declared.name.How.TheVariants.{Full, Prefix}
-use Rattle.cweb_store.specs.declared.name.NameId.{NameId}
 use Rattle.cweb_store.specs.declared.name.NameFault.{NameFault}
 use Rattle.cweb_store.specs.Faults.{unresolved_fault, unresolved_faults}
-use Rattle.cweb_store.specs.laws.Names.{Distinct}
 use Rattle.cweb_store.specs.declared.parts.PartKind.TheVariants.{Macro}
 use Rattle.cweb_store.specs.declared.call.Call as declared
 use Rattle.cweb_store.specs.declared.call.Call.TheVariants as made
+use Rattle.cweb_rules.specs.Bytes.{is_white}
+use Rattle.cweb_rules.specs.Edges.{first_is}
+
+-- The byte isn't white.
+abbrev pub is_other : ℕ → Bool
+is_other b = not (is_white b)
+
+-- Each white byte is a blank. It has a byte before it, and a byte that isn't white after it.
+abbrev pub HasSingleBlanks : List ℕ → Type 0
+HasSingleBlanks text = (before : List ℕ) (b : ℕ) (after : List ℕ) → text ≡ before ++ b ∷ after
+    → is_white b ≡ true → (b ≡ 32) × (before ≢ []) × (first_is is_other after ≡ true)
+
+-- White space in a spelling is single blanks between other bytes, and the other bytes stay in order.
+pub record SpellingsAreSqueezed : Type 0 where
+  pub single : (text : List ℕ) → HasSingleBlanks (squeezed text)
+  pub others : (text : List ℕ) → filter is_other (squeezed text) ≡ filter is_other text
+  -- any span of white space counts as one blank
+  pub spans : (before gap after : List ℕ) (b : ℕ) → is_white b ≡ true → list_all is_white gap ≡ true
+      → squeezed (before ++ b ∷ (gap ++ after)) ≡ squeezed (before ++ 32 ∷ after)
+  pub stays : (text : List ℕ) → HasSingleBlanks text → squeezed text ≡ text
+  pub twice : (text : List ℕ) → squeezed (squeezed text) ≡ squeezed text
+
+-- Lists without duplicates.
+abbrev pub Distinct : List (List ℕ) → Type 0
+Distinct [] = Unit {0}
+Distinct (x ∷ xs) = (list_any (bytes_eq x) xs ≡ false) × Distinct xs
 
 -- A call that was accepted.
 pub data Call : Type 0 where

@@ -1,15 +1,61 @@
--- Tokens and parts as calls see them, their numbers, and their strings.
+-- Occurrences, tokens and parts as calls see them, their numbers, strings and edges.
 use Rattle.cweb_store.specs.declared.tokens.Token.{Token as BorrowedToken}
 use Rattle.std.specs.Prelude.{◌≡◌, ℕ, ◌+◌, List, [], ◌∷◌, ◌++◌, fold, length, map, flat_map, option_to_list, Bool}
-use Rattle.std.specs.Prelude.{slice_range, if◌then◌else◌, ◌≤◌, All}
-use Rattle.cweb_store.specs.surface.StringTables.{total, with_word}
+use Rattle.std.specs.Prelude.{slice_range, if◌then◌else◌, ◌≤◌, All, bytes_eq, ◌==◌, codes}
 use Rattle.cweb_store.specs.Parts.{Token, Word, Number, Literal, Verbatim, Punct, all_tokens, joined_where, Part}
-use Rattle.cweb_store.specs.surface.Names.{occurrence_text}
 use Rattle.cweb_store.specs.Calls.{Replacement, Stored, PartsSoFar}
 use Rattle.cweb_store.specs.declared.parts.PartKind.{PartKind}
 use Rattle.cweb_store.specs.Parts as spec
 use Rattle.cweb_store.specs.declared.tokens.Token.TheVariants as borrowed
 use Rattle.cweb_store.specs.declared.parts.Part as declared
+use Rattle.std.specs.List.{list_any}
+use Rattle.cweb_store.specs.declared.name.How.{How}
+use Rattle.cweb_store.specs.Names.{Occurrence}
+use Rattle.cweb_store.specs.declared.edges.Edge.{Edge}
+use Rattle.cweb_rules.specs.Edges.{is_one_of, is_operator, first_is, last_is}
+use Rattle.cweb_store.specs.declared.edges.Edge.TheVariants as edge_kind
+
+-- a byte that may continue a number
+abbrev pub is_numeric : ℕ → Bool
+is_numeric b = is_one_of (codes ".+-") b
+
+-- one of three edges, by two tests of the last byte: whether it is a point, and whether it is an operator byte
+abbrev pub edge_by_last : Edge → Edge → Edge → Bool → Bool → Edge
+edge_by_last plain operator point is_point is_operator =
+    if is_point then point else (if is_operator then operator else plain)
+
+-- the edge of a punctuator, by two tests of its first byte and two of its last byte
+abbrev pub punctuator_edge_by : Bool → Bool → Bool → Bool → Edge
+punctuator_edge_by is_numeric is_operator is_point ends =
+    if is_numeric then edge_by_last edge_kind.NumericPlain edge_kind.NumericOperator edge_kind.NumericPoint is_point
+    ends
+    else (if is_operator then edge_by_last edge_kind.OperatorPlain edge_kind.OperatorOperator edge_kind.OperatorPoint
+    is_point
+    ends
+    else edge_by_last edge_kind.PlainPlain edge_kind.PlainOperator edge_kind.PlainPoint is_point ends)
+
+abbrev pub punctuator_edge : List ℕ → Edge
+punctuator_edge b =
+    punctuator_edge_by (first_is is_numeric b) (first_is is_operator b) (last_is (λ x. x == 46) b)
+    (last_is is_operator b)
+
+abbrev pub occurrence_of : List ℕ → How → Bool → Occurrence
+occurrence_of text how is_file = record { text = text; how = how; is_file = is_file }
+
+abbrev pub occurrence_text : Occurrence → List ℕ
+occurrence_text o = o.text
+
+-- The maximum number of occurrences is less than this.
+abbrev pub too_many : ℕ
+too_many = 4294967295
+
+abbrev pub total : {A : Type 0} → (A → ℕ) → List A → ℕ
+total f [] = 0
+total f (x ∷ xs) = f x + total f xs
+
+-- words with one more, unless it is among them
+abbrev pub with_word : List (List ℕ) → List ℕ → List (List ℕ)
+with_word words word = if list_any (bytes_eq word) words then words else words ++ word ∷ []
 
 -- The model of a token that borrows its bytes.
 abbrev pub token_model : BorrowedToken → spec.Token

@@ -1,13 +1,13 @@
 // Finished parts.
 ghost use Rattle.std.specs.Prelude.{◌≡◌, ◌<◌, length, IfOk};
-ghost use Rattle.cweb_store.specs.surface.Names.{too_many};
+ghost use Rattle.cweb_store.specs.surface.Tokens.{too_many};
 ghost use Rattle.cweb_store.specs.Parts.{all_tokens, has_defs_code};
 ghost use Rattle.cweb_store.specs.inner.PartRanges.{ranges_from};
 ghost use Rattle.cweb_store.specs.Faults.{is_used};
 ghost use Rattle.cweb_store.specs.inner.Stored.{AreWithin, flag_of};
 
 use crate::name::{NameId, NameKind};
-use crate::parts::PartRange;
+use crate::parts::{Open, PartRange};
 use crate::tokens::list::TokenList;
 use std::alloc::{AllocError, Global};
 use std::marker::Model;
@@ -27,12 +27,28 @@ impl Model for ClosedParts {
 
     ghost use Rattle.cweb_store.specs.inner.PartRanges.{closed_in, IsWhole};
 
-    ghost view = { λ s. map (closed_in s.tokens.tokens) s.ranges.items };
+    ghost view = { λ s. map (closed_in s.tokens) s.ranges.items };
 
-    ghost invariant = { λ s. IsWhole s.tokens.tokens s.ranges.items };
+    ghost invariant = { λ s. IsWhole s.tokens s.ranges.items };
 }
 
 impl ClosedParts {
+    ghost use Rattle.std.specs.Prelude.{vec_capacity};
+    ghost use Rattle.cweb_store.specs.inner.PartRanges.{parts_in, ArePartRanges};
+    ghost use Rattle.cweb_store.specs.surface.Tokens.{all_parts};
+
+    /// The closed parts, and an open one, which ends here.
+    pub fn new(tokens: TokenList, mut ranges: Vec<PartRange>, current: Option<Open>) -> ClosedParts
+        requires { ArePartRanges tokens ranges.items current (vec_capacity ranges) }
+        ensures { result ≡ all_parts (parts_in tokens ranges.items current) }
+    {
+        let Some(current) = current else {
+            return ClosedParts { tokens, ranges };
+        };
+        ranges.push_reserved(current.up_to(tokens.len() as u32));
+        ClosedParts { tokens, ranges }
+    }
+
     /// The ranges of the parts, in order.
     pub fn ranges(&self) -> &[PartRange]
         ensures ranges { result.now ≡ ranges_from 0 self.now }
@@ -44,8 +60,8 @@ impl ClosedParts {
     /// The tokens of all parts.
     #[inline(always)]
     pub fn tokens(&self) -> &TokenList
-        ensures tokens { result.now.tokens ≡ all_tokens self.now }
-        ensures few { length result.now.tokens < too_many }
+        ensures tokens { result.now ≡ all_tokens self.now }
+        ensures few { length result.now < too_many }
     {
         &self.tokens
     }

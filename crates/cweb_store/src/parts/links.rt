@@ -1,6 +1,6 @@
 // Links from each part to the next part of its group.
 ghost use Rattle.std.specs.Prelude.{◌≡◌, ◌<◌, [], length, IfOk};
-ghost use Rattle.cweb_store.specs.surface.Names.{too_many};
+ghost use Rattle.cweb_store.specs.surface.Tokens.{too_many};
 ghost use Rattle.cweb_store.specs.inner.Stored.{AreLinked, IsPut, head_of, AreWithin};
 
 use crate::name::{NameId, NameKind};

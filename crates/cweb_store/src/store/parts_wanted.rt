@@ -2,14 +2,12 @@
 ghost use Rattle.std.specs.Prelude.{◌<◌, ◌↔◌, length, IsTrue};
 ghost use Rattle.cweb_store.specs.Names as spec;
 ghost use Rattle.cweb_store.specs.Parts.{is_macro, is_of, is_unnamed};
-ghost use Rattle.cweb_store.specs.surface.Tokens.{AreRangesOf};
+ghost use Rattle.cweb_store.specs.surface.Tokens.{AreRangesOf, too_many};
 ghost use Rattle.cweb_store.specs.Faults.{has_part};
-ghost use Rattle.cweb_store.specs.surface.Names.{too_many};
 ghost use Rattle.cweb_store.specs.inner.Stored.{is_wanted};
 
-use crate::name::NameId;
 use crate::parts::iter::{Parts, Wanted};
-use crate::store::Store;
+use crate::{NameId, Store};
 
 impl Store {
     /// The unnamed parts, which are the program.

@@ -1,11 +1,10 @@
 // A store's tokens: their number and their bytes.
 ghost use Rattle.std.specs.Prelude.{◌≡◌, ◌<◌, length, map};
 ghost use Rattle.cweb_store.specs.inner.DirectBytes.{direct_bytes};
-ghost use Rattle.cweb_store.specs.surface.Names.{too_many};
+ghost use Rattle.cweb_store.specs.surface.Tokens.{too_many};
 ghost use Rattle.cweb_store.specs.Parts.{all_tokens};
 
-use crate::store::Store;
-use crate::tokens::token_reader::TokenReader;
+use crate::{Store, TokenReader};
 
 impl Store {
     /// The number of tokens of all parts, macros included.

@@ -1,7 +1,6 @@
 // A list of tokens.
-ghost use Rattle.std.specs.Prelude.{◌≡◌, ◌<◌, ◌+◌, ◌++◌, ◌∷◌, [], filter, length, take, Some};
-ghost use Rattle.std.specs.Prelude.{slice_get, OnOk, OnErr};
-ghost use Rattle.cweb_store.specs.surface.Names.{too_many};
+ghost use Rattle.std.specs.Prelude.{◌≡◌, ◌<◌, ◌+◌, ◌++◌, ◌∷◌, [], filter, length, take, Some, slice_get, OnOk, OnErr};
+ghost use Rattle.cweb_store.specs.surface.Tokens.{too_many};
 ghost use Rattle.cweb_store.specs.inner.PartRanges.{has_string};
 
 use crate::string_table::StringTable;
@@ -32,23 +31,14 @@ impl Drop for TokenList {
 }
 
 impl Model for TokenList {
-    ghost use Rattle.std.specs.Prelude.{vec_capacity};
-    ghost use Rattle.cweb_store.specs.inner.PartRanges.{TokenListModel};
+    ghost use Rattle.std.specs.Prelude.{List};
+    ghost use Rattle.cweb_store.specs.Parts.{Token};
 
-    ghost Value = { TokenListModel };
+    ghost Value = { List Token };
 
     ghost use Rattle.cweb_store.specs.inner.Records.{tokens_of, AreIndexedTokens};
 
-    ghost view = { λ s.
-        record {
-          tokens = tokens_of s.strings.strings s.places.items s.records.items;
-          rooms = record {
-            for_records = vec_capacity s.records;
-            for_places = vec_capacity s.places;
-            for_uses = vec_capacity s.token_index.uses;
-            for_defs = vec_capacity s.token_index.defs;
-          };
-        } };
+    ghost view = { λ s. tokens_of s.strings.strings s.places.items s.records.items };
 
     ghost invariant = { λ s.
         AreIndexedTokens s.strings s.places.items s.records.items s.token_index };
@@ -59,7 +49,7 @@ impl TokenList {
 
     /// An empty list.
     pub fn new(alloc: Global) -> TokenList
-        ensures { result.tokens ≡ [] }
+        ensures { result ≡ [] }
     {
         TokenList {
             strings: StringTable::new(alloc),
@@ -71,7 +61,7 @@ impl TokenList {
 
     /// The number of tokens.
     pub fn len(&self) -> usize
-        ensures { result ≡ length self.now.tokens }
+        ensures { result ≡ length self.now }
     {
         self.records.len()
     }
@@ -79,10 +69,10 @@ impl TokenList {
     /// Appends a token. A refused call changes nothing.
     #[inline(always)]
     pub fn push(&mut self, token: Token<'_>) -> Result<(), AllocError>
-        requires few { length self.old.tokens + 1 < too_many }
-        ensures ok { OnOk result (self.new.tokens ≡ self.old.tokens ++ token_model token.entry
+        requires few { length self.old + 1 < too_many }
+        ensures ok { OnOk result (self.new ≡ self.old ++ token_model token.entry
             ∷ []) }
-        ensures err { OnErr result (self.new.tokens ≡ self.old.tokens) }
+        ensures err { OnErr result (self.new ≡ self.old) }
     {
         self.records.reserve(1)?;
         let number = self.records.len() as u32;
@@ -99,8 +89,8 @@ impl TokenList {
 
     /// The token at an index.
     pub fn token(&self, number: usize) -> Token<'_>
-        requires { number < length self.now.tokens }
-        ensures { slice_get self.now.tokens number ≡ Some (token_model result) }
+        requires { number < length self.now }
+        ensures { slice_get self.now number ≡ Some (token_model result) }
     {
         token_at(
             self.strings.strings(),
@@ -112,10 +102,9 @@ impl TokenList {
 
     /// Truncates to the first `count` tokens. The dropped ones have no string. Allocates nothing.
     pub fn truncate(&mut self, count: usize)
-        requires { filter has_string (take count self.old.tokens)
-            ≡ filter has_string self.old.tokens }
-        ensures tokens { self.new.tokens ≡ take count self.old.tokens }
-        ensures rooms { self.new.rooms ≡ self.old.rooms }
+        requires { filter has_string (take count self.old)
+            ≡ filter has_string self.old }
+        ensures { self.new ≡ take count self.old }
     {
         if count >= self.records.len() {
             return;

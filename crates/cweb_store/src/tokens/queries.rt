@@ -4,17 +4,13 @@ ghost use Rattle.std.specs.List.{list_any};
 ghost use Rattle.cweb_store.specs.Parts.{is_defs};
 ghost use Rattle.cweb_store.specs.Faults.{is_use};
 ghost use Rattle.cweb_store.specs.inner.Stored.{AreWithin, FlagsToo};
-ghost use Rattle.cweb_store.specs.surface.Tokens.{token_model, AreInOneList, interned_token_bytes};
-ghost use Rattle.cweb_store.specs.surface.Tokens.{token_strings};
+ghost use Rattle.cweb_store.specs.surface.Tokens.{token_model, AreInOneList, interned_token_bytes, token_strings};
 ghost use Rattle.cweb_store.specs.inner.Records.{IsNextNumber, is_name_use};
 
-use crate::name::{NameId, NameKind};
-use crate::parts::Part;
 use crate::resolution::resolved_at;
-use crate::tokens::Token;
 use crate::tokens::list::TokenList;
 use crate::tokens::token_index::next_in_range;
-use crate::tokens::token_reader::TokenReader;
+use crate::{NameId, NameKind, Part, Token, TokenReader};
 
 impl TokenList {
     ghost use Rattle.std.specs.Prelude.{map};
@@ -23,7 +19,7 @@ impl TokenList {
     /// A reader of the tokens' bytes.
     #[inline(always)]
     pub fn token_reader(&self) -> TokenReader<'_>
-        ensures { result ≡ map direct_bytes self.now.tokens }
+        ensures { result ≡ map direct_bytes self.now }
     {
         TokenReader {
             records: self.records.as_slice(),
@@ -34,7 +30,7 @@ impl TokenList {
     /// The index of the first use of a name in a range, or the end of the range if there is none.
     pub fn next_use(&self, part: Part) -> u32
         requires { part.first ≤ part.after }
-        ensures { IsNextNumber is_name_use self.now.tokens part result }
+        ensures { IsNextNumber is_name_use self.now part result }
     {
         next_in_range(self.token_index.uses.as_slice(), part)
     }
@@ -47,10 +43,10 @@ impl TokenList {
         used: &mut [bool],
     )
         requires ordered { part.first ≤ part.after }
-        requires within { part.after ≤ length self.now.tokens }
+        requires within { part.after ≤ length self.now }
         requires known { AreWithin resolutions.now (length used.old) }
         ensures { FlagsToo
-            (λ n. list_any (is_use resolutions.now n) (slice_range self.now.tokens part.first part.after))
+            (λ n. list_any (is_use resolutions.now n) (slice_range self.now part.first part.after))
             used.old used.new }
     {
         let mut next = self.next_use(part);
@@ -67,16 +63,16 @@ impl TokenList {
     /// Whether there is a Defs in a range.
     pub(crate) fn has_defs(&self, part: Part) -> bool
         requires ordered { part.first ≤ part.after }
-        requires within { part.after ≤ length self.now.tokens }
-        ensures { result ≡ list_any is_defs (slice_range self.now.tokens part.first part.after) }
+        requires within { part.after ≤ length self.now }
+        ensures { result ≡ list_any is_defs (slice_range self.now part.first part.after) }
     {
         next_in_range(self.token_index.defs.as_slice(), part) < part.after
     }
 
     /// The number of bytes of all strings.
     pub fn text_bytes(&self) -> usize
-        ensures strings { AreInOneList result (flat_map token_strings self.now.tokens) }
-        ensures once { result ≡ interned_token_bytes self.now.tokens }
+        ensures strings { AreInOneList result (flat_map token_strings self.now) }
+        ensures once { result ≡ interned_token_bytes self.now }
         ensures few { result < 2 ^ 63 }
     {
         self.strings.strings().text_bytes()

@@ -1,17 +1,14 @@
 // Tokens as records of five bytes. A record holds an index of its string, or of its place if it is a Mark.
 ghost use Rattle.std.specs.Prelude.{◌≡◌, ◌<◌, ◌+◌, ℕ, length, Some, slice_get, IfOk, OnOk, OnErr};
-ghost use Rattle.cweb_store.specs.surface.Names.{too_many};
-ghost use Rattle.cweb_store.specs.inner.Records.{AreRecords, AddsPlace, InternsToken};
-ghost use Rattle.cweb_store.specs.inner.Records.{StringIsWithin, PlaceIsWithin, token_of_record};
-ghost use Rattle.cweb_store.specs.inner.Records.{tokens_of, AddsNumber, HasSameEntries};
-ghost use Rattle.cweb_store.specs.surface.Tokens.{token_model};
+ghost use Rattle.cweb_store.specs.surface.Tokens.{too_many, token_model};
+ghost use Rattle.cweb_store.specs.inner.Records.{AreRecords, AddsPlace, InternsToken, StringIsWithin, PlaceIsWithin};
+ghost use Rattle.cweb_store.specs.inner.Records.{token_of_record, tokens_of, AddsNumber, HasSameEntries};
 
-use crate::name::NameRef;
 use crate::string_table::StringTable;
 use crate::strings::StringList;
-use crate::tokens::Token;
 use crate::tokens::token_index::TokenIndex;
 use crate::tokens::unaligned::Unaligned;
+use crate::{NameRef, Token};
 use cweb_files::Place;
 use std::alloc::AllocError;
 

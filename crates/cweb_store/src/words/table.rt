@@ -1,10 +1,9 @@
 // A hash table of words.
-ghost use Rattle.std.specs.Prelude.{◌≡◌, ◌<◌, ◌≤◌, ◌∷◌, ◌++◌, [], ℕ, List, Some, length, false};
-ghost use Rattle.std.specs.Prelude.{slice_get, slice_index_or, IfSome, MatchBool, MatchOption};
-ghost use Rattle.std.specs.Prelude.{vec_capacity, vec_len};
+ghost use Rattle.std.specs.Prelude.{◌≡◌, ◌<◌, ◌≤◌, ◌∷◌, ◌++◌, [], ℕ, List, Some, length, false, slice_get};
+ghost use Rattle.std.specs.Prelude.{slice_index_or, IfSome, MatchBool, MatchOption, vec_capacity, vec_len};
 ghost use Rattle.cweb_store.specs.declared.words.word.Word.{Word};
-ghost use Rattle.cweb_store.specs.inner.Words.{AreChains, key_of, DescribeStrings, FindsString};
-ghost use Rattle.cweb_store.specs.inner.Words.{PushesWord, have_string};
+ghost use Rattle.cweb_store.specs.inner.Words.{AreChains, key_of, DescribeStrings, FindsString, PushesWord};
+ghost use Rattle.cweb_store.specs.inner.Words.{have_string};
 
 use crate::strings::StringList;
 use crate::words::key::{Key, home_bucket};

@@ -1,16 +1,15 @@
 -- Drafts in a tree, and what the calls for them do.
-use Rattle.std.specs.Prelude.{◌≡◌, ◌<◌, ◌⊎◌, ℕ, List, [], ◌∷◌, ◌++◌, Bool, Contains, IfErr, IfOk, IsTrue, OnErr, Option, Result, Some, None, ⊤, false, string_bytes, vec_len, vec_capacity}
+use Rattle.std.specs.Prelude.{◌≡◌, ◌<◌, ◌⊎◌, ℕ, List, [], ◌∷◌, ◌++◌, Bool, Contains, IfErr, IfOk, IfSome, IsTrue, OnErr, Option, Result, Some, None, ⊤, false, string_bytes, vec_len, vec_capacity}
 use Rattle.cweb_system.specs.declared.drafts.path.Draft.{Draft}
 use Rattle.cweb_system.specs.declared.node.FileFault.{FileFault}
 use Rattle.cweb_system.specs.declared.node.FileKey.{FileKey}
 use Rattle.cweb_system.specs.declared.node.Node.{Node}
 use Rattle.cweb_system.specs.declared.run_files.RunFiles.{RunFiles}
 use Rattle.cweb_system.specs.declared.written.WrittenFile.{WrittenFile}
-use Rattle.cweb_system.specs.FileSet.{keys_in}
-use Rattle.cweb_system.specs.Steps.{AreDecent, Disk, IsDraftPlace, OnDisk}
+use Rattle.cweb_system.specs.Steps.{keys_in, AreDecent, Disk, IsDraftPlace, OnDisk}
 use Rattle.cweb_system.specs.Tree.{Tree, at, IsFile, Removes}
-use Rattle.cweb_system.specs.inner.Keys.{is_among}
-use Rattle.cweb_system.specs.inner.Written.{HasFiles, HasNameAlone, IsNew, IsUnnamed, Leaves}
+use Rattle.cweb_system.specs.inner.Written.{is_among}
+use Rattle.cweb_system.specs.inner.Written.{HasFiles, IsNew, IsNewBut, IsUnnamed, Leaves}
 
 -- A file is only under drafts' paths.
 abbrev pub IsDraftAlone : FileKey → Tree → Type 0
@@ -58,6 +57,14 @@ pub record HasDraft {F H : Type 0} (disk : Option (F → Disk)) (key : H → Fil
 abbrev pub CanPut : RunFiles → FileKey → Type 0
 CanPut files key = (vec_len files.written < vec_capacity files.written) × IsTrue (is_among (keys_in files.created) key)
 
+-- The committed files and the draft are where the run has put them.
+pub record IsSound {F H : Type 0} (disk : Option (F → Disk)) (key : H → FileKey) (run : RunFiles)
+    (begun : Option (Draft H)) (fs : F) : Type 0 where
+  pub files : HasFiles disk fs run.written.items
+  -- The draft is where it was begun, and its file can be recorded.
+  pub draft : IfSome begun (λ draft. CanPut run draft.key
+      × OnDisk disk (λ see. DraftIsThere key run.written.items draft (see fs).tree))
+
 -- No file that was read is under a path.
 abbrev pub IsUnread : List FileKey → List ℕ → Tree → Type 0
 IsUnread read path tree = (found : FileKey) → Contains read found → IsFile found (at tree path) → ⊥
@@ -66,7 +73,7 @@ IsUnread read path tree = (found : FileKey) → Contains read found → IsFile f
 pub record IsApart (name : List ℕ) (key : FileKey) (files : RunFiles) (tree : Tree) : Type 0 where
   pub own : IsFile key (at tree name) → ⊥
   pub unread : IsUnread (keys_in files.read) name tree
-  pub others : (found : FileKey) → IsFile found (at tree name) → HasNameAlone name found files.written.items
+  pub others : (found : FileKey) → IsFile found (at tree name) → IsNewBut (Some name) found files.written.items
 
 -- The entry under a path is removed in a decent step, or nothing changes.
 pub record Clears {F : Type 0} (disk : Option (F → Disk)) (path : List ℕ) (old new : F) : Type 0 where
@@ -89,7 +96,7 @@ IsClearable files (Some _) = ⊥
 abbrev pub IsReplaceable : RunFiles → List ℕ → Option Node → Type 0
 IsReplaceable files name None = ⊤
 IsReplaceable files name (Some (Node.File key mode)) =
-    (Contains (keys_in files.read) key → ⊥) × HasNameAlone name key files.written.items
+    (Contains (keys_in files.read) key → ⊥) × IsNewBut (Some name) key files.written.items
 IsReplaceable files name (Some _) = ⊥
 
 -- `P` holds if nothing is in the way of an output's draft.

@@ -1,7 +1,6 @@
 // Drafts are put in place, or discarded.
-ghost use Rattle.std.specs.Prelude.{◌≡◌, None, Some, IsTrue, IsOk, IfOk, OnOk, OnErr, string_bytes};
-ghost use Rattle.cweb_system.specs.FileSet.{keys_in};
-ghost use Rattle.cweb_system.specs.Steps.{OnDisk};
+ghost use Rattle.std.specs.Prelude.{◌≡◌, None, Some, IsOk, IfOk, OnOk, OnErr, string_bytes};
+ghost use Rattle.cweb_system.specs.Steps.{keys_in, OnDisk};
 ghost use Rattle.cweb_system.specs.Tree.{IsFile, at};
 ghost use Rattle.cweb_system.specs.inner.Drafts.{AnswersCommit, DraftIsThere, HasDraft, IsApart};
 ghost use Rattle.cweb_system.specs.inner.Drafts.{IsCleared, KeepsDecent, KeepsMode, LeavesFiles};
@@ -9,10 +8,9 @@ ghost use Rattle.cweb_system.specs.inner.Written.{Leaves, Places};
 
 use crate::drafts::steps::{remove_at, rename_draft, set_draft_mode};
 use crate::drafts::{Draft, DraftPath};
-use crate::file_system::FileSystem;
-use crate::node::{FileFault, Node};
 use crate::run_files::RunFiles;
 use crate::written::is_at;
+use crate::{FileFault, FileSystem, Node};
 
 /// Renames the draft. A device needs no more. It is an error if another file has its path by now: that one would be
 /// renamed. Returns whether the name may have been committed before.

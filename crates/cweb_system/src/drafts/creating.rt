@@ -1,8 +1,7 @@
 // Drafts are created, and what was left at their paths is cleared.
 ghost use Rattle.std.specs.Prelude.{◌≡◌, None, Some, Ok, Contains, true, IsErr, IsSome, IfErr, IfOk, IfSome, OnOk};
 ghost use Rattle.cweb_system.specs.declared.node.FileKey.{FileKey};
-ghost use Rattle.cweb_system.specs.FileSet.{keys_in};
-ghost use Rattle.cweb_system.specs.Steps.{OnDisk};
+ghost use Rattle.cweb_system.specs.Steps.{keys_in, OnDisk};
 ghost use Rattle.cweb_system.specs.Tree.{IsFile, at};
 ghost use Rattle.cweb_system.specs.inner.Drafts.{Begins, Clears, HasCause, IsCleared, LeavesFiles, Prepares};
 ghost use Rattle.cweb_system.specs.inner.Written.{HasFiles};
@@ -10,9 +9,8 @@ ghost use Rattle.cweb_system.specs.inner.Written.{HasFiles};
 use crate::drafts::DraftPath;
 use crate::drafts::steps::{create_at, remove_at};
 use crate::file_set::FileSet;
-use crate::file_system::FileSystem;
-use crate::node::{FileFault, FileKey, Node};
 use crate::run_files::RunFiles;
+use crate::{FileFault, FileKey, FileSystem, Node};
 
 /// How often a run tries to create a draft while other runs interfere.
 const TURNS: u32 = 100_000;
@@ -112,7 +110,7 @@ fn clear<F: FileSystem>(fs: &mut F, path: DraftPath<'_>, files: &RunFiles) -> Re
     match fs.look(path.text) {
         None => Ok(()),
         Some(Node::File(key, _)) => {
-            if files.has_written(fs, key) || files.read.contains(key) {
+            if files.has_written(fs, key, None) || files.read.contains(key) {
                 return Err(FileFault::Other);
             }
             clear_file(fs, path, key)

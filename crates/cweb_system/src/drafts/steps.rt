@@ -6,8 +6,7 @@ ghost use Rattle.cweb_system.specs.Tree.{Appends, IsFile, MayCreate, Removes, Re
 ghost use Rattle.cweb_system.specs.inner.Drafts.{IsDraftAlone, IsUnread, IsAlone, KeepsDecent};
 
 use crate::drafts::{Draft, DraftPath};
-use crate::file_system::FileSystem;
-use crate::node::FileFault;
+use crate::{FileFault, FileSystem};
 
 /// Creates a draft. `None`: something is there.
 pub fn create_at<F: FileSystem>(

@@ -1,16 +1,14 @@
 // How an output is written.
-ghost use Rattle.std.specs.Prelude.{◌≡◌, Contains, Some, Ok, IsTrue, IsErr};
+ghost use Rattle.std.specs.Prelude.{◌≡◌, Contains, Some, Ok, IsErr};
 ghost use Rattle.cweb_system.specs.declared.node.FileKey.{FileKey};
-ghost use Rattle.cweb_system.specs.FileSet.{keys_in};
-ghost use Rattle.cweb_system.specs.Steps.{OnDisk};
+ghost use Rattle.cweb_system.specs.Steps.{keys_in, OnDisk};
 ghost use Rattle.cweb_system.specs.Tree.{IsFile, at};
 ghost use Rattle.cweb_system.specs.inner.Drafts.{IsReplaceable};
 ghost use Rattle.cweb_system.specs.inner.Written.{HasFiles};
 
 use crate::file_set::FileSet;
-use crate::file_system::FileSystem;
-use crate::node::{FileFault, FileKey, Node};
 use crate::run_files::RunFiles;
+use crate::{FileFault, FileKey, FileSystem, Node};
 
 /// The owner may always read and write a draft.
 const OWNERS: u32 = 0o600;

@@ -8,9 +8,9 @@ use Rattle.cweb_system_tests.specs.declared.memory_folder.log.Change.TheVariants
 use Rattle.cweb_system_tests.specs.declared.memory_folder.layout.Layout.{Layout}
 use Rattle.cweb_system_tests.specs.declared.memory_folder.steps.NewFile.{NewFile}
 use Rattle.cweb_system_tests.specs.declared.memory_folder.steps.Renaming.{Renaming}
-use Rattle.cweb_system.specs.Tree.{Tree, IsFile, OthersStay, at}
+use Rattle.cweb_system.specs.Tree.{Tree, IsFile, OthersStay, at, file_key}
 use Rattle.cweb_system_tests.specs.inner.Layout.{followed, place_in}
-use Rattle.cweb_system.specs.inner.Keys.{key_eq}
+use Rattle.cweb_system.specs.inner.Written.{key_eq}
 
 abbrev pub node_with_mode : FileKey → ℕ → Option Node → Option Node
 node_with_mode key mode (Some (Node.File k m)) = Some (Node.File k (if key_eq k key then mode else m))
@@ -39,11 +39,6 @@ nodes_by (c ∷ log) p found = nodes_by log p (node_step c p found)
 abbrev pub bytes_by : List Change → FileKey → List ℕ → List ℕ
 bytes_by [] k bytes = bytes
 bytes_by (c ∷ log) k bytes = bytes_by log k (bytes_step c k bytes)
-
--- The key of a regular file that was found.
-abbrev pub file_key : Option Node → Option FileKey
-file_key (Some (Node.File key mode)) = Some key
-file_key found = None
 
 -- The state after these changes.
 abbrev pub tree_of : Layout → List Change → Tree

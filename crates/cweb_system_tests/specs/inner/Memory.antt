@@ -3,9 +3,9 @@ use Rattle.std.specs.Prelude.{ℕ, Bool, List, drop, string_bytes, take}
 use Rattle.cweb_system_tests.specs.declared.memory_folder.layout.Layout.{Layout}
 use Rattle.cweb_system_tests.specs.declared.memory_folder.MemoryFile.{MemoryFile}
 use Rattle.cweb_system_tests.specs.declared.memory_folder.MemoryFolder.{MemoryFolder}
+use Rattle.cweb_system.specs.Tree.{Tree}
 use Rattle.cweb_system.specs.declared.node.FileKey.{FileKey}
 use Rattle.cweb_system.specs.Steps.{Disk}
-use Rattle.cweb_system.specs.Tree.{Tree}
 use Rattle.cweb_system_tests.specs.inner.Log.{past_by, tree_of}
 
 abbrev pub memory_tree : MemoryFolder → Tree

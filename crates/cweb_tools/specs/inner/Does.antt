@@ -1,19 +1,16 @@
 -- The effect of calls as acts, and the course of `wmerge`.
-use Rattle.std.specs.Prelude.{ℕ, List, [], Option, Some, None, Result, Ok, Err, ◌+◌, ◌<◌, ◌^◌, ◌≡◌, ◌∷◌, IsSome}
+use Rattle.std.specs.Prelude.{ℕ, List, [], Option, Some, None, Result, Ok, Err, ◌+◌, ◌<◌, ◌^◌, ◌≡◌, ◌∷◌}
 use Rattle.cweb_lines.specs.declared.stop.Stop.TheVariants.{LogFault}
-use Rattle.cweb_tools.specs.DeviceModels.{Devices, FailedReads, contents_of, failed_reads}
+use Rattle.cweb_tools.specs.DeviceModels.{Devices, FailedReads}
 use Rattle.cweb_files.specs.Sinks.{SinkModel}
 use Rattle.cweb_tools.specs.Acts.{Act, Ending, ending, PerformsActs, RunEnds, FollowsActs}
 use Rattle.cweb_lines.specs.declared.stop.Stop.{Stop}
 use Rattle.cweb_lines.specs.Include.{names_found, contents_found, World, Found, web_at, change_at}
 use Rattle.cweb_lines.specs.Merge.{started}
-use Rattle.cweb_lines.specs.surface.EnoughSteps.{merge}
+use Rattle.cweb_lines.specs.surface.MergeProgress.{merge}
 use Rattle.cweb_tools.specs.CommandLine.{WebNames}
-use Rattle.cweb_tools.specs.Course.{Course, unread, not_there, change_not_there, merging, change_name}
-use Rattle.cweb_tools.specs.MergeActs.{MergeCanCome, merge_acts, merge_devices}
-use Rattle.cweb_files.specs.Shelves.{Observed, ShelfModel}
-use Rattle.cweb_lines.specs.surface.MergerCalls.{BeginsMerge, KnowsReaders, so_far, to_come}
-use Rattle.cweb_lines.specs.declared.merger.Merger.{Merger}
+use Rattle.cweb_tools.specs.MergeActs.{Course, unread, not_there, change_not_there, merging, change_name, MergeCanCome}
+use Rattle.cweb_tools.specs.MergeActs.{merge_acts, merge_devices}
 
 -- The devices of a run.
 abbrev pub at : FailedReads → SinkModel → SinkModel → Devices
@@ -80,17 +77,3 @@ abbrev pub EndsMerge : Option WebNames → Course → Devices → Devices → �
 EndsMerge args course before after status =
     FollowsActs merge_acts (MergeCanCome args) (λ taken. taken ≡ course) (merge_devices before) (merge_devices after)
     status
-
--- The merge of the files that were found begins.
-pub record MergeHasBegun {S R : Type 0} (shelf : ShelfModel R) (merger : Merger S R) (world : World)
-    (found : Option Found) (changes : Option (Option Found)) : Type 0 where
-  pub begins : IsSome (failed_reads shelf).blamed
-      → BeginsMerge world found changes (so_far merger) (to_come (contents_of shelf) merger)
-  pub known : Observed shelf (λ seen. KnowsReaders seen merger)
-
--- Whatever was found, a run of `wmerge` ends as its course does.
-abbrev pub MergesBegun : {S R : Type 0} → ShelfModel R → Merger S R → SinkModel → SinkModel → Devices → ℕ → Type 0
-MergesBegun shelf merger out log after status =
-    (names : WebNames) (world : World) (found : Option Found) (changes : Option (Option Found))
-    → MergeHasBegun shelf merger world found changes
-    → EndsMerge (Some names) (found_course world names found changes) (at (failed_reads shelf) out log) after status

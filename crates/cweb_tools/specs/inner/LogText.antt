@@ -1,10 +1,10 @@
 -- Texts for the log: their items, their bytes chunk by chunk, and the names that lines of stops end in.
-use Rattle.std.specs.Prelude.{List, [], ◌∷◌, ◌++◌, codes, map, ℕ, decimal, ◌≡◌, Result, Ok, Err, option_map}
-use Rattle.std.specs.Prelude.{string_bytes}
+use Rattle.std.specs.Prelude.{List, [], ◌∷◌, ◌++◌, codes, map, ℕ, decimal, ◌≡◌, Result, Ok, Err, Option, Some, None}
+use Rattle.std.specs.Option.{option_map_or}
 use Rattle.std.specs.List.{flat_map}
 use Rattle.cweb_lines.specs.surface.OpenedFileNames.{opened_file_names}
 use Rattle.cweb_tools.specs.Items.{LogItem, banner, closing, counts, cycle_step, fault, name_items, no_text, scan_item}
-use Rattle.cweb_tools.specs.Items.{source_item, starred, stopped, writing, line, star, refusal_message}
+use Rattle.cweb_tools.specs.Items.{source_item, starred, stopped, writing, line, star, refusal_message, file_name_at}
 use Rattle.cweb_tools.specs.declared.log_text.LogLine.{LogLine}
 use Rattle.cweb_tools.specs.declared.log_text.LogLine.TheVariants.{Banner, Closing, Counts, NoProgramText, Refused}
 use Rattle.cweb_tools.specs.declared.log_text.LogLine.TheVariants.{Stopped, Writing}
@@ -15,14 +15,11 @@ use Rattle.cweb_tools.specs.declared.chunks.Part.{Part}
 use Rattle.cweb_tools.specs.declared.chunks.Part.TheVariants.{Text, Number}
 use Rattle.cweb_files.specs.Sinks.{FailsWithin, SinkModel, written}
 use Rattle.cweb_store.specs.Calls.{Stored}
-use Rattle.cweb_out.specs.Outputs.{bad_name, same_name, cycle}
+use Rattle.cweb_out.specs.Outputs.{Refusal, bad_name, same_name, cycle}
 use Rattle.cweb_out.specs.declared.outputs.fault.PlanFault.{PlanFault}
 use Rattle.cweb_lines.specs.declared.stop.Stop.{Stop}
 use Rattle.cweb_lines.specs.declared.stop.Stop.TheVariants.{WebNotOpened, ChangeNotOpened, ReadFault, LineTooLong}
 use Rattle.cweb_lines.specs.declared.stop.Stop.TheVariants.{WriteFault}
-use Rattle.cweb_tools.specs.Log.{file_name_at}
-use Rattle.cweb_tools.specs.declared.words.MergeWords.{MergeWords}
-use Rattle.cweb_tools.specs.CommandLine.{WebNames}
 use Rattle.cweb_lines.specs.declared.stop.Stop.TheVariants as stop
 use Rattle.cweb_out.specs.declared.outputs.fault.PlanFault.TheVariants as plan
 
@@ -70,12 +67,17 @@ abbrev pub AppendsToLog : {A E : Type 0} → List ℕ → SinkModel → SinkMode
 AppendsToLog more before after old new (Ok x) = Buffers more before after old new
 AppendsToLog more before after old new (Err e) = FailsWithin (old ++ more) before after
 
+-- The refusal of a plan's fault, if the fault isn't a failed allocation.
+abbrev pub refusal_in : PlanFault → Option Refusal
+refusal_in (plan.Cycle names) = Some (cycle names.items)
+refusal_in (plan.SameName name) = Some (same_name name)
+refusal_in (plan.BadName output) = Some (bad_name output)
+refusal_in plan.Memory = None
+
 -- A fault of the plan, or a failed allocation, which stops the run.
 abbrev pub plan_item : Stored → List ℕ → PlanFault → LogItem
-plan_item web main (plan.Cycle names) = fault (refusal_message web main (cycle names.items))
-plan_item web main (plan.SameName name) = fault (refusal_message web main (same_name name))
-plan_item web main (plan.BadName output) = fault (refusal_message web main (bad_name output))
-plan_item web main plan.Memory = stopped stop.Memory []
+plan_item web main f =
+    option_map_or (λ refusal. fault (refusal_message web main refusal)) (refusal_in f) (stopped stop.Memory [])
 
 -- For a stop at the start of a merge, from the names of the web and of the change file.
 abbrev pub start_subject : List ℕ → List ℕ → Stop → List ℕ
@@ -89,11 +91,3 @@ subject names (ReadFault file) = file_name_at names file.0
 subject names (LineTooLong file) = file_name_at names file.0
 subject names WriteFault = codes "standard output"
 subject names _ = []
-
--- The model of `wmerge`'s parsed words.
-abbrev pub merge_word_names : MergeWords → WebNames
-merge_word_names words = record {
-  web = string_bytes words.web;
-  second = option_map (λ name. string_bytes name) words.second;
-  change = option_map (λ name. string_bytes name) words.change;
-}

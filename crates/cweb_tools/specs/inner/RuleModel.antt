@@ -28,13 +28,9 @@ dependencies targets files (refused text) = []
 dependencies targets files (planned outputs missing) =
     depfile (map (λ output. output.name) (among_outputs targets outputs)) (each_once files)
 
--- The text that one argument asks for: that of the version, or of the help.
-abbrev pub about_word : List ℕ → Option (List ℕ)
-about_word word =
+-- The text that one argument asks for: that of the version, or of the help. Several arguments ask for none.
+abbrev pub about_wdep : List (List ℕ) → Option (List ℕ)
+about_wdep (word ∷ []) =
     if bytes_eq word (codes "--version") then Some VERSION.now
     else (if bytes_eq word (codes "--help") then Some HELP.now else None)
-
--- The text that the arguments ask for. Several arguments ask for none.
-abbrev pub about_wdep : List (List ℕ) → Option (List ℕ)
-about_wdep (word ∷ []) = about_word word
 about_wdep words = None

@@ -1,27 +1,65 @@
--- A scanned web, how it is opened, and the acts and status of a run after its words are parsed.
-use Rattle.std.specs.Prelude.{Ok, count_by, ◌≡◌, ℕ, ◌==◌, List, [], ◌∷◌, Option, None, Some, if◌then◌else◌, length, map}
+-- A scanned web, how it is opened, the acts and status of a run after its words are parsed, and its outputs.
+use Rattle.std.specs.Prelude.{Ok, count_by, ◌≡◌, ℕ, ◌==◌, List, [], ◌∷◌, Option, None, Some, if◌then◌else◌, length}
+use Rattle.std.specs.Prelude.{string_bytes, All, map, vec_capacity, Result, Err}
 use Rattle.cweb_lines.specs.Include.{World}
 use Rattle.cweb_lines.specs.declared.stop.Stop.TheVariants.{WebNotOpened, ChangeNotOpened}
 use Rattle.cweb_out.specs.Expansion.{names}
-use Rattle.cweb_out.specs.Outputs.{Planned, Refusal, bad_name, same_name, cycle}
+use Rattle.cweb_out.specs.Outputs.{Planned, Output}
 use Rattle.cweb_store.specs.Calls.{Stored}
 use Rattle.cweb_tools.specs.Items.{LogItem, is_fault, stopped}
 use Rattle.cweb_tools.specs.CommandLine.{OptionsModel}
 use Rattle.cweb_tools.specs.DeviceModels.{FailedReads, Devices}
 use Rattle.cweb_files.specs.Sinks.{SinkModel}
-use Rattle.cweb_tools.specs.Acts.{Act, FollowsActs, opens, reads, says, RunEnds, acts_status}
+use Rattle.cweb_tools.specs.Acts.{Act, FollowsActs, opens, reads, says, RunEnds, acts_status, Ending, ending}
 use Rattle.cweb_tools.specs.Script.{Planning, TangleCourse, unread, not_there, change_not_there, tangling, refused}
-use Rattle.cweb_tools.specs.Script.{planned, script}
-use Rattle.cweb_tools.specs.Tangle.{CanCome, planning_by, shown_by, tangled, web_of}
+use Rattle.cweb_tools.specs.Script.{planned, script, web_acts}
+use Rattle.cweb_tools.specs.surface.Options.{options_of}
+use Rattle.cweb_tools.specs.declared.options.Options.{Options}
+use Rattle.cweb_tools.specs.Tangle.{CanCome, planning_by, shown_by, tangled, web_of, output_file}
 use Rattle.cweb_tools.specs.inner.Does.{merge_course, at}
 use Rattle.cweb_lines.specs.surface.OpenedFileNames.{opened_file_names}
-use Rattle.cweb_scan.specs.surface.Scan.{scanned_model, IsScanBelow}
-use Rattle.cweb_out.specs.declared.outputs.fault.PlanFault.{PlanFault}
+use Rattle.cweb_scan.specs.surface.Scan.{scanned_model, IsScanBelow, IsMarkBelow}
 use Rattle.cweb_tools.specs.declared.web.Web.{Web}
 use Rattle.cweb_lines.specs.declared.fault.SourceFault.{SourceFault}
 use Rattle.cweb_scan.specs.Lexemes.{Scanned}
 use Rattle.cweb_out.specs.declared.outputs.fault.PlanFault.TheVariants as fault
 use Rattle.cweb_tools.specs.Script as script
+use Rattle.cweb_files.specs.Files.{File}
+use Rattle.cweb_lines.specs.declared.files.FileNames.{FileNames}
+use Rattle.cweb_store.specs.Parts.{Token, all_tokens}
+use Rattle.cweb_out.specs.surface.FrameStacks.{IsFrameStack, left}
+use Rattle.cweb_out.specs.surface.Outputs.{IsPlanOf, output_name_at, output_at}
+use Rattle.cweb_out.specs.declared.expander.Expander.{Expander}
+use Rattle.cweb_tools.specs.declared.outputs.Failed.{Failed}
+
+-- Its plan is one of its store, its stack of frames is valid, and all line marks of its store are about files with
+-- names.
+pub record IsReady (names : FileNames) (e : Expander) : Type 0 where
+  pub made : IsPlanOf e.store.now e.plan.now
+  pub valid : IsFrameStack e.store.now e.frames.items (vec_capacity e.frames)
+  pub marks : All (IsMarkBelow (length (opened_file_names names))) (all_tokens e.store.now.parts)
+
+pub record StaysReady (old new : Expander) : Type 0 where
+  pub store : new.store ≡ old.store
+  pub plan : new.plan ≡ old.plan
+  pub valid : IsFrameStack new.store.now new.frames.items (vec_capacity new.frames)
+
+-- The tokens that it will still yield.
+abbrev pub left_in : Expander → List Token
+left_in e = left e.store.now e.frames.items
+
+-- The file of an output, by index.
+abbrev pub file_at : FileNames → Expander → ℕ → File
+file_at names e number = output_file e.store.now (opened_file_names names) (output_at e.plan.now.outputs number)
+
+-- The files of the plan.
+abbrev pub planned_files : FileNames → Expander → List File
+planned_files names e = map (output_file e.store.now (opened_file_names names)) e.plan.now.outputs
+
+-- The end of writing the outputs.
+abbrev pub output_ending : {A : Type 0} → List Output → Result A Failed → Option Ending
+output_ending outputs (Ok x) = None
+output_ending outputs (Err failed) = Some (ending failed.stop (output_name_at outputs failed.output))
 
 -- The outputs of a plan, as files.
 abbrev pub plan_made : Stored → List (List ℕ) → Planned → Planning
@@ -52,11 +90,19 @@ abbrev pub tangle_course : World → Option OptionsModel → TangleCourse
 tangle_course world None = unread
 tangle_course world (Some args) = tangled args.names.main (merge_course world (Some args.names.merge))
 
--- The run ended before it read anything, as its course does.
-abbrev pub EndsUnread : Option OptionsModel → SinkModel → SinkModel → ℕ → Type 0
-EndsUnread args log log' status = (world : World) (shelf : FailedReads) (out : SinkModel)
-    → FollowsActs (script (shown_by args)) (CanCome args) (λ taken. taken ≡ tangle_course world args) (at shelf out log)
-    (at shelf out log') status
+-- A run of `ctangle` ends as its course does.
+abbrev pub EndsTangle : Option OptionsModel → World → Devices → Devices → ℕ → Type 0
+EndsTangle args world before after status =
+    FollowsActs (script (shown_by args)) (CanCome args) (λ taken. taken ≡ tangle_course world args) before after status
+
+-- The web was scanned. If the acts after that end so, the run ends as its course does.
+abbrev pub BeginsTangle : Option OptionsModel → World → FailedReads → FailedReads → SinkModel → SinkModel → Options
+    → List (List ℕ) → List SourceFault → Scanned → Type 0
+BeginsTangle args world shelf shelf' log log' options files faults made =
+    (out : SinkModel) (after : Devices) (status : ℕ) →
+    let acts = web_acts (options_of options).shown (web_of files faults made (string_bytes options.main)) in
+    RunEnds acts (acts_status acts) (at shelf' out log') after status
+    → EndsTangle args world (at shelf out log) after status
 
 -- The names of a scanned web's files.
 abbrev pub files_of : Web → List (List ℕ)
@@ -72,17 +118,6 @@ faults_of web = (web_in web []).faults
 -- The files of a web's line marks have names.
 abbrev pub IsKnown : Web → Type 0
 IsKnown web = IsScanBelow (length (files_of web)) (scanned_model web.scanned.now)
-
--- Its faults are logged in order.
-abbrev pub said_faults : Web → List Act
-said_faults web = map says (faults_of web)
-
--- The refusal of a plan's fault, if the fault isn't a failed allocation.
-abbrev pub refusal_in : PlanFault → Option Refusal
-refusal_in (fault.Cycle names) = Some (cycle names.items)
-refusal_in (fault.SameName name) = Some (same_name name)
-refusal_in (fault.BadName output) = Some (bad_name output)
-refusal_in fault.Memory = None
 
 -- The part of a run from the opening of the web ends as its course does.
 abbrev pub EndsAs : LaterActs → OptionsModel → TangleCourse → Devices → Devices → ℕ → Type 0

@@ -1,7 +1,6 @@
 // The names of a depfile, escaped as `make` reads them.
 ghost use Rattle.std.specs.Prelude.{◌≡◌, ◌<◌, ◌+◌, ◌^◌, ◌++◌, OnOk, IfOk, replicate};
-ghost use Rattle.cweb_tools.specs.Depfile.{backslashes_after, escaped, escaped_byte, name_end};
-ghost use Rattle.cweb_tools.specs.Depfile.{needs_backslash};
+ghost use Rattle.cweb_tools.specs.Depfile.{backslashes_after, escaped, escaped_byte, name_end, needs_backslash};
 
 use std::alloc::AllocError;
 

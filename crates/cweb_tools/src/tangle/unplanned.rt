@@ -9,13 +9,12 @@ ghost use Rattle.cweb_tools.specs.inner.Does.{EndsInLog};
 ghost use Rattle.cweb_tools.specs.Script.{planned_acts, refused};
 ghost use Rattle.cweb_tools.specs.Tangle.{numbers_of, planning};
 ghost use Rattle.cweb_tools.specs.inner.Tangle.{fault_count, status_by, faults_of, files_of};
-ghost use Rattle.cweb_tools.specs.inner.Tangle.{refusal_in};
+ghost use Rattle.cweb_tools.specs.inner.LogText.{refusal_in};
 
-use crate::log_text::LogText;
-use crate::options::Shown;
 use crate::saying::say_end;
 use crate::web::Web;
 use crate::writing::{log_stop, write_log};
+use crate::{LogText, Shown};
 use cweb_lines::{Sink, Stop};
 use cweb_out::PlanFault;
 

@@ -40,14 +40,14 @@ returns-in-Some c =
     (splits_after c.args.bytes.now inv.0 (take 32 rest) (drop 32 rest) at
     (inv.1 ∙ ap (λ (l : List ℕ). inv.0 ++ l) (sym (take-append-drop 32 rest))) inv.2 c.in-Some.ensures)
 
-pub returns-in-Some-memchr : goal.returns-in-Some-memchr
-returns-in-Some-memchr c =
+pub returns : goal.returns
+returns c =
     let inv = c.runs.invariant in
     let rest = c.runs.rest.now in
-    let at = c.in-Some-memchr.at in
+    let at = c.in_ok-at.at in
     subst (SplitsAt c.args.bytes.now) (prefix_size c.args.bytes.now inv.0 rest at inv.1)
     (splits_after c.args.bytes.now inv.0 rest [] at (inv.1 ∙ ap (λ (l : List ℕ). inv.0 ++ l) (sym (append-nil rest)))
-    inv.2 (newline_at-memchr rest (Some at) c.in-Some-memchr.ensures))
+    inv.2 (newline_at-memchr rest (Some at) c.in_ok-at.ensures))
 
-pub returns-in-None : goal.returns-in-None
-returns-in-None c = grind (arith, no_newline-append, newline_at-memchr)
+pub returns-in_err-at : goal.returns-in_err-at
+returns-in_err-at c = grind (arith, no_newline-append, newline_at-memchr)

@@ -1,6 +1,4 @@
-use Rattle.std.proofs.Common.{inr}
-use Rattle.cweb_lines.proofs.Common.{Some, ◌≡◌, ◌<◌, ⊎_elim, cases_lt, HasNoNewline, ◌++◌, [], ℕ, List, sym, ◌∙◌, ap, subst, rules, refl, Err, append_assoc, err_from_is_err_and, bytes_left, buffered, IsLongerThan, TakesFromBuffer, TooLong, LINE_LENGTH, arith}
-use Rattle.cweb_files.specs.Shelves.{ShelfContents}
+use Rattle.cweb_lines.proofs.Common.{Some, ◌≡◌, ◌<◌, ⊎_elim, cases_lt, HasNoNewline, ◌++◌, [], ℕ, List, sym, ◌∙◌, ap, subst, rules, refl, Err, append_assoc, err_from_is_err_and, bytes_left, buffered, IsLongerThan, TakesFromBuffer, TooLong, LINE_LENGTH, arith, inr, ShelfContents}
 use Rattle.cweb_lines.proofs.Newlines.{longer_more, none_buffered, taken_full, taken_more}
 use Rattle.cweb_lines.proofs.cut.next_line.Given as given
 use Rattle.cweb_lines.proofs.cut.next_line.Goals as goal

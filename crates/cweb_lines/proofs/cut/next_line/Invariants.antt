@@ -1,6 +1,4 @@
-use Rattle.std.specs.Prelude.{◌⊎◌}
-use Rattle.cweb_files.specs.Shelves.{Observed}
-use Rattle.cweb_lines.proofs.Common.{◌≡◌, ◌≤◌, ◌-◌, ◌++◌, length, HasNoNewline, buffered, bytes_left, LINE_LENGTH}
+use Rattle.cweb_lines.proofs.Common.{◌≡◌, ◌≤◌, ◌-◌, ◌++◌, length, HasNoNewline, buffered, bytes_left, LINE_LENGTH, ◌⊎◌, Observed}
 use Rattle.cweb_lines.proofs.cut.next_line.Given as goal
 
 abbrev pub invariant-pieces : goal.invariant-pieces

@@ -1,4 +1,4 @@
-use Rattle.std.proofs.Common.{rules}
+use Rattle.cweb_lines.proofs.Common.{rules}
 use Rattle.cweb_lines.proofs.include.is_include_line.Goals as goal
 
 pub returns-else-line-eq105 : goal.returns-else-line-eq105

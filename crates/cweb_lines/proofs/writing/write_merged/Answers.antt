@@ -1,4 +1,4 @@
-use Rattle.std.proofs.Common.{arith}
+use Rattle.cweb_lines.proofs.Common.{arith}
 use Rattle.cweb_lines.proofs.BufferedWrites.{loses_line}
 use Rattle.cweb_lines.proofs.writing.write_merged.Goals as goal
 

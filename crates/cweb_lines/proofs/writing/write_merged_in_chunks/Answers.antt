@@ -1,11 +1,8 @@
-use Rattle.cweb_lines.proofs.Errors.{same_error}
-use Rattle.cweb_lines.proofs.Common.{rules, ◌≡◌, Some, [], Ok, Err, Line, refl, sym, ◌∙◌, Writes, BuffersLines, HasWritten, events_to_come, so_far_of, to_come, so_far, arith}
+use Rattle.cweb_lines.proofs.Common.{rules, ◌≡◌, Some, [], Ok, Err, Line, refl, sym, ◌∙◌, Writes, BuffersLines, HasWritten, events_to_come, so_far_of, to_come, so_far, arith, same_error, ShelfContents}
 use Rattle.cweb_lines.proofs.ReportsOnlyGrow.{grows_reported, reported_same}
-use Rattle.cweb_lines.proofs.BufferedWrites.{failed_next, failed_same, held, held_on, fails_prefix, fails_among, printed_all, printed_before, printed_none, printed_then, written_on}
-use Rattle.cweb_files.specs.Shelves.{ShelfContents}
+use Rattle.cweb_lines.proofs.BufferedWrites.{failed_next, failed_same, held, held_on, fails_prefix, fails_among, printed_all, printed_before, printed_none, printed_then, written_on, blames_own, blames_write, memory_failed, memory_write, none_before}
 use Rattle.cweb_lines.proofs.NoReadFails.{Quiet, quiet_same, reads_halted, reads_passed, reads_then, stays_known, still_seen}
 use Rattle.cweb_lines.proofs.WrittenLinesAddUp.{nothing_yet, written_by, written_prefix, written_some, written_whole, tells_some, tells_more, tells_same}
-use Rattle.cweb_lines.proofs.WriteStops.{blames_own, blames_write, memory_failed, memory_write, none_before}
 use Rattle.cweb_lines.proofs.writing.write_merged_in_chunks.Given as given
 use Rattle.cweb_lines.proofs.writing.write_merged_in_chunks.Goals as goal
 use Rattle.cweb_lines.proofs.writing.write_merged_in_chunks.Goals.{After-pass_lines-passed, In_ok-next_line, In_default-write_all}

@@ -1,6 +1,5 @@
-use Rattle.cweb_lines.proofs.Common.{◌≡◌, ◌-◌, None, Writes, to_come, so_far, stop_in, HasWritten}
+use Rattle.cweb_lines.proofs.Common.{◌≡◌, ◌-◌, None, Writes, to_come, so_far, stop_in, HasWritten, Observed}
 use Rattle.cweb_lines.proofs.BufferedWrites.{Printed}
-use Rattle.cweb_files.specs.Shelves.{Observed}
 use Rattle.cweb_lines.proofs.NoReadFails.{Quiet}
 use Rattle.cweb_lines.proofs.writing.write_merged_in_chunks.Given as goal
 

@@ -1,5 +1,5 @@
 use Rattle.cweb_rules.proofs.Common.{◌<◌, arith}
-use Rattle.cweb_rules.proofs.WordTable.{word_known}
+use Rattle.cweb_rules.proofs.FirstTable.{word_known}
 use Rattle.cweb_rules.proofs.bytes.is_word_byte.Goals as goal
 
 pub returns : goal.returns

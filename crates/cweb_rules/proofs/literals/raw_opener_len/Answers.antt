@@ -1,5 +1,6 @@
 use Rattle.cweb_rules.proofs.Common.{◌+◌, List, ℕ, length, drop, ap, ◌∙◌, arith, codes, length-drop, begins, raw_prefix, delimiter, and_parts}
-use Rattle.cweb_rules.proofs.LineDelimiters.{sign-fits, has_delimiter-size}
+use Rattle.cweb_rules.proofs.LineDelimiters.{sign-fits}
+use Rattle.cweb_rules.proofs.TokenSizes.{has_delimiter-size}
 use Rattle.cweb_rules.proofs.literals.raw_opener_len.Goals as goal
 
 pub returns : goal.returns

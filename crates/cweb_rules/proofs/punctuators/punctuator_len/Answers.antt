@@ -1,5 +1,5 @@
 use Rattle.cweb_rules.proofs.Common.{sym, refl, ◌∙◌, is_one_of, listed, seconds}
-use Rattle.cweb_rules.proofs.Seconds.{longest-none}
+use Rattle.cweb_rules.proofs.Longest.{longest-none}
 use Rattle.cweb_rules.proofs.punctuators.punctuator_len.Goals as goal
 
 pub returns-then-not-may_be_listed : goal.returns-then-not-may_be_listed

@@ -1,6 +1,5 @@
-use Rattle.std.proofs.Common.{◌≡◌, ◌+◌, arith, ◌∙◌, ap, take}
+use Rattle.std.proofs.Common.{◌≡◌, ◌+◌, arith, ap, take}
 use Rattle.cweb_lines.specs.surface.OpenedFileNames.{opened_file_names}
-use Rattle.cweb_store.specs.inner.Words.{key_of}
 use Rattle.cweb_tools.specs.Depfile.{add_once, each_once}
 use Rattle.cweb_tools.proofs.NamesOnce.{name_added, pushes_new, skips_known}
 use Rattle.cweb_tools.proofs.depfile.each_once.Goals as goal
@@ -11,12 +10,10 @@ names-preserved c =
     let names = opened_file_names c.args.names.now in
     let next : add_once (each_once (take c.names.id names)) c.get-name.result.now
     ≡ each_once (take (c.names.id + 1) names) = grind (arith, name_added) in
-    let is_key = c.of-key.ensures ∙ ap key_of c.as_bytes.ensures.value in
     elim c.if-branch.branch [
-      | then-branch+in_ok-push w ↦ pushes_new _ _ _ _ _ c.get-name.result _ _ _ c.names.invariant is_key
+      | then-branch+in_ok-push w ↦ pushes_new _ _ _ _ c.get-name.result _ _ _ c.names.invariant
           c.in_ok-insert.ensures.added next w.if-branch.true c.in_ok-insert.ensures.updates
           (rw w.inputs-is w.in_ok-push.ensures.items)
-      | else-branch w ↦ skips_known _ _ _ _ _ c.get-name.result _ _ _ c.names.invariant is_key
-          c.in_ok-insert.ensures.added next w.if-branch.false c.in_ok-insert.ensures.unchanged
-          (ap (λ v. v.items) w.inputs-is)
+      | else-branch w ↦ skips_known _ _ _ _ c.get-name.result _ _ _ c.names.invariant c.in_ok-insert.ensures.added
+          next w.if-branch.false c.in_ok-insert.ensures.unchanged (ap (λ v. v.items) w.inputs-is)
     ]

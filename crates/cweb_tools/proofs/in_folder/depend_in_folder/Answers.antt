@@ -1,6 +1,6 @@
 use Rattle.cweb_tools.proofs.Common.{ℕ, List, Bor, map, option_copied}
 use Rattle.cweb_tools.specs.Depend.{DependPromises, DependsFreely, targets_by}
-use Rattle.cweb_tools.proofs.Courses.{options_in}
+use Rattle.cweb_tools.proofs.TanglePromisesProved.{options_in}
 use Rattle.cweb_tools.proofs.InFolder.{runs_in}
 use Rattle.cweb_tools.proofs.in_folder.depend_in_folder.Goals as goal
 

@@ -1,4 +1,4 @@
-use Rattle.cweb_tools.proofs.LeftShelves.{leave_shelf}
+use Rattle.cweb_tools.proofs.RunLaws.{leave_shelf}
 use Rattle.cweb_tools.proofs.laws.every_run_leaves_the_shelf.Goals as goal
 
 pub returns : goal.returns

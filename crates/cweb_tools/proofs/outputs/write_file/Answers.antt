@@ -1,6 +1,6 @@
 use Rattle.cweb_tools.proofs.Common.{◌≡◌, List, ℕ, changed, with_draft, written, output_name_at, file_at, arith}
 use Rattle.cweb_tools.proofs.Broken.{map_on}
-use Rattle.cweb_tools.proofs.DoingFiles.{file_done, not_written}
+use Rattle.cweb_tools.proofs.Doing.{file_done, not_written}
 use Rattle.cweb_tools.proofs.ReadyExpanders.{left_known, text_on}
 use Rattle.cweb_tools.proofs.outputs.write_file.Goals as goal
 

@@ -1,7 +1,6 @@
 use Rattle.cweb_tools.proofs.Common.{◌<◌, [], List, length, arith, None, Ok, Err, opened_file_names, Output, output_file}
 use Rattle.cweb_tools.proofs.Doing.{bins_counted, does_in, does_none, does_on, logs_counted}
-use Rattle.cweb_tools.proofs.OutputActs.{acts_all, acts_at, acts_more}
-use Rattle.cweb_tools.proofs.ReadyExpanders.{output_on, stays, stays_on}
+use Rattle.cweb_tools.proofs.ReadyExpanders.{acts_all, acts_at, acts_more, output_on, stays, stays_on}
 use Rattle.cweb_tools.proofs.outputs.write_outputs.Goals as goal
 
 abbrev no_output : Output

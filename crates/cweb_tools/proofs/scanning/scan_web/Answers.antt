@@ -1,8 +1,7 @@
 use Rattle.cweb_tools.proofs.Common.{◌≡◌, List, ℕ, refl, sym, ◌∙◌, ap, option_copied, World, Stop, contents_of, so_far, scanned_model, subject, OptionsModel, options_of, failed_reads, world_of, arith}
-use Rattle.cweb_tools.proofs.Carried.{left_by, observed}
+use Rattle.cweb_tools.proofs.Exits.{left_by, observed}
 use Rattle.cweb_tools.proofs.Broken.{shelf_after}
-use Rattle.cweb_tools.proofs.ReadingExits.{read_stops, read_whole}
-use Rattle.cweb_tools.proofs.TangleExits.{start_ends}
+use Rattle.cweb_tools.proofs.TangleExits.{read_stops, read_whole, start_ends}
 use Rattle.cweb_tools.proofs.scanning.scan_web.Goals as goal
 
 pub returns-in-Err-clause-stops : goal.returns-in-Err-clause-stops

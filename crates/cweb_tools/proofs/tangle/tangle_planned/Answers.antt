@@ -1,11 +1,10 @@
 use Rattle.cweb_tools.proofs.Common.{refl, ◌∙◌, ap, arith, ◌==◌, if◌then◌else◌, ℕ, Ok, Err, reserves}
-use Rattle.cweb_tools.proofs.Doing.{ends_done, ends_in, ends_on, log_counted, logs_counted}
-use Rattle.cweb_tools.proofs.DoingFiles.{closing_on, does_reserve, log_halts, log_halts_all, memory_halts, stop_counted}
+use Rattle.cweb_tools.proofs.Doing.{does_in, ends_done, ends_halted, ends_on, log_counted, logs_counted, does_reserve, log_halts, memory_halts, stop_counted}
 use Rattle.cweb_tools.proofs.ReadyExpanders.{all_on}
 use Rattle.cweb_tools.proofs.tangle.tangle_planned.Goals as goal
 
 pub returns-in-Err : goal.returns-in-Err
-returns-in-Err g c = λ shelf. log_halts _ (c.in-Err.ensures shelf _) refl
+returns-in-Err g c = λ shelf. log_halts (does_in _ (c.in-Err.ensures shelf _)) refl
 
 pub log_stop-requires : goal.log_stop-requires
 log_stop-requires g c = omega (arith, log_counted c.in_default.ensures, c.requires.counts.log)
@@ -37,9 +36,10 @@ log_failed-requires g c = λ never.
     )
 
 pub returns-in-Err-write_outputs : goal.returns-in-Err-write_outputs
-returns-in-Err-write_outputs g c = λ shelf. ends_on (c.in_default.ensures shelf _) (ends_on does_reserve (ends_in _
+returns-in-Err-write_outputs g c = λ shelf. ends_on (c.in_default.ensures shelf _) (ends_on does_reserve
+    (ends_halted (does_in _
     (all_on c.args.shown.progress c.args.web.names.now c.in-Ok.expander (Err c.in-Err-write_outputs.failed)
-    c.in-Ok.ensures.store c.store.ensures c.in-Ok.ensures.plan c.in-Err-write_outputs.ensures.does shelf)
+    c.in-Ok.ensures.store c.store.ensures c.in-Ok.ensures.plan c.in-Err-write_outputs.ensures.does shelf))
     (record { others = refl; log = rw c.output_name.ensures at c.log_failed.ensures.logs })
     c.log_failed.ensures.status))
 
@@ -55,12 +55,16 @@ say_end-requires g c =
 pub returns-in-Err-say_end : goal.returns-in-Err-say_end
 returns-in-Err-say_end g c = λ shelf. ends_on (c.in_default.ensures shelf _) (ends_on does_reserve (ends_on
     (all_on c.args.shown.progress c.args.web.names.now c.in-Ok.expander (Ok tt) c.in-Ok.ensures.store c.store.ensures
-    c.in-Ok.ensures.plan c.in_default-write_outputs.ensures.does shelf) (log_halts_all (closing_on c.args.shown _
-    c.fault_count-count.ensures.count c.no_text.ensures c.in-Err-say_end.ensures shelf _) refl)))
+    c.in-Ok.ensures.plan c.in_default-write_outputs.ensures.does shelf) (log_halts ((rw (
+      c.fault_count-count.ensures.count,
+      c.no_text.ensures,
+    ) at c.in-Err-say_end.ensures) shelf _) refl)))
 
 pub returns : goal.returns
 returns g c = λ shelf. ends_on (c.in_default.ensures shelf _) (ends_on does_reserve (ends_on
     (all_on c.args.shown.progress c.args.web.names.now c.in-Ok.expander (Ok tt) c.in-Ok.ensures.store c.store.ensures
-    c.in-Ok.ensures.plan c.in_default-write_outputs.ensures.does shelf) (ends_done (closing_on c.args.shown _
-    c.fault_count-count.ensures.count c.no_text.ensures c.in_default-say_end.ensures shelf _)
+    c.in-Ok.ensures.plan c.in_default-write_outputs.ensures.does shelf) (ends_done ((rw (
+      c.fault_count-count.ensures.count,
+      c.no_text.ensures,
+    ) at c.in_default-say_end.ensures) shelf _)
     (c.status.ensures ∙ ap (λ (n : ℕ). if n == 0 then 0 else 1) c.fault_count-count.ensures.count))))

@@ -1,20 +1,22 @@
-use Rattle.cweb_tools.proofs.Common.{refl, arith, files_of}
+use Rattle.cweb_tools.proofs.Common.{refl, arith, files_of, options_of}
+use Rattle.std.specs.Prelude.{string_bytes}
 use Rattle.cweb_tools.specs.inner.Tangle.{web_in}
-use Rattle.cweb_tools.proofs.Doing.{ends_on, log_counted}
-use Rattle.cweb_tools.proofs.DoingFiles.{does_plan, log_halts}
+use Rattle.cweb_tools.proofs.Doing.{does_in, ends_on, log_counted, does_plan, log_halts}
 use Rattle.cweb_tools.proofs.Refusals.{planning_made}
 use Rattle.cweb_tools.proofs.Statuses.{web_status_is}
 use Rattle.cweb_tools.proofs.tangle.tangle_web.Goals as goal
 
 pub returns-in-Err : goal.returns-in-Err
-returns-in-Err g c = λ shelf. log_halts _ ((rw c.as_slice.ensures.value at c.in-Err.ensures) shelf _) refl
+returns-in-Err g c = λ shelf.
+    log_halts (does_in _ ((rw (c.as_slice.ensures.value, c.shown-shown.ensures) at c.in-Err.ensures) shelf _)) refl
 
 pub say_faults-requires : goal.say_faults-requires
 say_faults-requires g c = omega (arith, log_counted c.in_default.ensures, c.requires.counts.log)
 
 pub returns-in-Err-say_faults : goal.returns-in-Err-say_faults
-returns-in-Err-say_faults g c = λ shelf. ends_on ((rw c.as_slice.ensures.value at c.in_default.ensures) shelf _)
-    (log_halts _ (c.in-Err-say_faults.ensures shelf _) refl)
+returns-in-Err-say_faults g c = λ shelf.
+    ends_on ((rw (c.as_slice.ensures.value, c.shown-shown.ensures) at c.in_default.ensures) shelf _)
+    (log_halts (does_in _ (c.in-Err-say_faults.ensures shelf _)) refl)
 
 pub tangle_planned-requires-clause-counts : goal.tangle_planned-requires-clause-counts
 tangle_planned-requires-clause-counts g c = record {
@@ -33,13 +35,19 @@ tangle_unplanned-requires-clause-count g c =
     omega (arith, log_counted c.in_default.ensures, log_counted c.in_default-say_faults.ensures, c.requires.counts.log)
 
 pub returns-in-Ok : goal.returns-in-Ok
-returns-in-Ok g c = λ shelf. rw (web_status_is c.args.shown (web_in c.args.web c.args.main.now))
-    (ends_on ((rw c.as_slice.ensures.value at c.in_default.ensures) shelf _) (ends_on
+returns-in-Ok g c = λ shelf.
+    rw (web_status_is
+    (options_of c.args.options.now).shown (web_in c.args.web (string_bytes c.args.options.now.main)))
+    (ends_on ((rw (c.as_slice.ensures.value, c.shown-shown.ensures) at c.in_default.ensures) shelf _) (ends_on
     (c.in_default-say_faults.ensures shelf _) (ends_on does_plan (rw (planning_made c.args.web.scanned.now.store
-    (files_of c.args.web) c.args.main.now _ (rw c.store.ensures at c.in-Ok.ensures))
-    (c.tangle_planned.ensures shelf)))))
+    (files_of c.args.web) (string_bytes c.args.options.now.main) _
+    (rw (c.store.ensures, c.as_str-main.ensures.value) at c.in-Ok.ensures))
+    ((rw c.shown-shown.ensures at c.tangle_planned.ensures) shelf)))))
 
 pub returns-in-Err-plan : goal.returns-in-Err-plan
-returns-in-Err-plan g c = λ shelf. rw (web_status_is c.args.shown (web_in c.args.web c.args.main.now))
-    (ends_on ((rw c.as_slice.ensures.value at c.in_default.ensures) shelf _)
-    (ends_on (c.in_default-say_faults.ensures shelf _) (c.tangle_unplanned.ensures.closes shelf _)))
+returns-in-Err-plan g c = λ shelf.
+    rw (web_status_is
+    (options_of c.args.options.now).shown (web_in c.args.web (string_bytes c.args.options.now.main)))
+    (ends_on ((rw (c.as_slice.ensures.value, c.shown-shown.ensures) at c.in_default.ensures) shelf _)
+    (ends_on (c.in_default-say_faults.ensures shelf _)
+    ((rw (c.as_str-main.ensures.value, c.shown-shown.ensures) at c.tangle_unplanned.ensures.closes) shelf _)))

@@ -1,11 +1,10 @@
 use Rattle.cweb_tools.proofs.Common.{◌≡◌, refl, ◌∙◌, ap, arith, ◌==◌, if◌then◌else◌, ℕ, List, reserves, files_of, plan_made, dependencies}
-use Rattle.cweb_tools.proofs.Doing.{ends_done, ends_halted, ends_on, log_counted}
-use Rattle.cweb_tools.proofs.DoingFiles.{does_reserve, log_halts, memory_halts}
-use Rattle.cweb_tools.proofs.Printing.{printed_prefix, printed_whole, target_names_among}
+use Rattle.cweb_tools.proofs.Doing.{does_in, ends_done, ends_halted, ends_on, log_counted, does_reserve, log_halts, memory_halts, printed_prefix, printed_whole}
+use Rattle.cweb_tools.proofs.Targets.{target_names_among}
 use Rattle.cweb_tools.proofs.wdep.depend_planned.Goals as goal
 
 pub returns-in-Err : goal.returns-in-Err
-returns-in-Err g c = λ shelf. log_halts _ ((rw c.no_text.ensures at c.in-Err.ensures) shelf _) refl
+returns-in-Err g c = λ shelf. log_halts (does_in _ ((rw c.no_text.ensures at c.in-Err.ensures) shelf _)) refl
 
 pub log_stop-requires : goal.log_stop-requires
 log_stop-requires g c = omega (arith, log_counted c.in_default.ensures, c.requires.counts.log)

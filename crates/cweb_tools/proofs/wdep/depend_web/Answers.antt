@@ -1,13 +1,12 @@
 use Rattle.cweb_tools.proofs.Common.{refl, arith, files_of}
 use Rattle.cweb_tools.specs.inner.Tangle.{web_in}
-use Rattle.cweb_tools.proofs.Doing.{ends_on, log_counted}
-use Rattle.cweb_tools.proofs.DoingFiles.{does_plan, log_halts}
+use Rattle.cweb_tools.proofs.Doing.{does_in, ends_on, log_counted, does_plan, log_halts}
 use Rattle.cweb_tools.proofs.Refusals.{planning_made, unplanned_ends}
 use Rattle.cweb_tools.proofs.Statuses.{depend_status_is}
 use Rattle.cweb_tools.proofs.wdep.depend_web.Goals as goal
 
 pub returns-in-Err : goal.returns-in-Err
-returns-in-Err g c = λ shelf. log_halts _ (c.in-Err.ensures shelf _) refl
+returns-in-Err g c = λ shelf. log_halts (does_in _ (c.in-Err.ensures shelf _)) refl
 
 pub depend_planned-requires-clause-counts : goal.depend_planned-requires-clause-counts
 depend_planned-requires-clause-counts g c = record {

@@ -1,5 +1,5 @@
 use Rattle.cweb_tools.proofs.Common.{◌<◌, length, sym, ◌∙◌, arith, scanned_model, faults_of, files_of}
-use Rattle.cweb_tools.proofs.FaultItems.{counted_all, none_said, some_from, some_said}
+use Rattle.cweb_tools.proofs.Logging.{counted_all, none_said, some_said}
 use Rattle.cweb_tools.proofs.web.say_faults.Goals as goal
 
 pub returns-then-fault_count-eq0 : goal.returns-then-fault_count-eq0
@@ -9,7 +9,7 @@ returns-then-fault_count-eq0 g c = none_said (faults_of c.args.web) (sym (counte
 
 pub returns : goal.returns
 returns g c =
-    let some : 0 < c.fault_count.result = some_from c.fault_count.result c.if-fault_count-eq0.false in
+    let some : 0 < c.fault_count.result = omega (arith, c.if-fault_count-eq0.false) in
     let all : 0 < length (faults_of c.args.web) =
     omega (
       arith,

@@ -1,6 +1,6 @@
 use Rattle.cweb_tools.proofs.Common.{refl, scanned_model, files_of}
 use Rattle.cweb_files.proofs.Appending.{wrote_then, wrote_until}
-use Rattle.cweb_tools.proofs.FaultItems.{fault_text}
+use Rattle.cweb_tools.proofs.Logging.{fault_text}
 use Rattle.cweb_tools.proofs.web.write_web_faults.Goals as goal
 
 pub returns-in_err-write_log : goal.returns-in_err-write_log

@@ -1,6 +1,5 @@
 use Rattle.cweb_tools.proofs.Common.{◌<◌, length, arith, opened_file_names}
-use Rattle.cweb_tools.proofs.FaultItems.{faults_said}
-use Rattle.cweb_tools.proofs.Logging.{some_by}
+use Rattle.cweb_tools.proofs.Logging.{faults_said, some_by}
 use Rattle.cweb_tools.proofs.wmerge.log_faults.Goals as goal
 
 pub returns : goal.returns

@@ -1,18 +1,20 @@
-use Rattle.cweb_tools.proofs.Common.{ℕ, List, Bor, map, web_names_by, merge_acts, ap, Err, refl, Some, World, WebNames, IsMergeCourse, contents_of, failed_reads, world_of, option_copied}
-use Rattle.cweb_tools.specs.inner.LogText.{merge_word_names}
-use Rattle.cweb_tools.proofs.Courses.{merge_comes, same_stop}
-use Rattle.cweb_tools.proofs.MergeStarts.{words_stopped}
+use Rattle.cweb_tools.proofs.Common.{ℕ, List, Bor, map, web_names_by, MergeCanCome, merge_acts, merge_course, ap, Err, refl, Some, World, WebNames, IsMergeCourse, contents_of, failed_reads, world_of, option_copied}
+use Rattle.cweb_tools.specs.inner.Variables.{merge_word_names}
+use Rattle.cweb_tools.proofs.TanglePromisesProved.{merge_comes, same_stop, promised_by, ran_freely}
+use Rattle.cweb_tools.proofs.MergeExits.{begins_acts, can_run}
+use Rattle.cweb_tools.proofs.MergeStops.{out_of}
+use Rattle.cweb_tools.proofs.RunEnds.{words_end}
 use Rattle.cweb_tools.proofs.MergePromisesProved.{one_course}
-use Rattle.cweb_tools.proofs.TanglePromisesProved.{promised_by, ran_freely}
 use Rattle.cweb_tools.proofs.wmerge.run_wmerge.Goals as goal
 
 pub returns-in-Err-clause-promises : goal.returns-in-Err-clause-promises
-returns-in-Err-clause-promises g c = promised_by (merge_comes
-    (world_of (contents_of (g.S.Shelf.model c.args.shelf.now)).texts (option_copied c.args.inputs))
-    (web_names_by (map (λ (word : Bor (List ℕ)). word.now) c.args.words.now)))
-    (words_stopped (world_of (contents_of (g.S.Shelf.model c.args.shelf.now)).texts (option_copied c.args.inputs))
-    (web_names_by (map (λ (word : Bor (List ℕ)). word.now) c.args.words.now)) c.in-Err.stop
-    (failed_reads (g.S.Shelf.model c.args.shelf.now)) (g.W.Sink.model c.args.out.now) c.in-Err.ensures.stops
+returns-in-Err-clause-promises g c =
+    let world : World = world_of (contents_of (g.S.Shelf.model c.args.shelf.now)).texts (option_copied c.args.inputs) in
+    let args = web_names_by (map (λ (word : Bor (List ℕ)). word.now) c.args.words.now) in
+    let shelf = failed_reads (g.S.Shelf.model c.args.shelf.now) in
+    promised_by (merge_comes world args) (words_end _ merge_acts MergeCanCome (merge_course world) (can_run world) refl
+    args (λ one is. begins_acts one _ (can_run world (Some one))) c.in-Err.stop shelf
+    (out_of shelf (g.W.Sink.model c.args.out.now)) _ c.in-Err.ensures.stops
     (λ is. c.in-Err.ensures.usage.0 (ap Err is))
     (λ none. same_stop _ _ _ refl (c.in-Err.ensures.usage.1 none)) c.log_stop.ensures.logs c.log_stop.ensures.status)
 

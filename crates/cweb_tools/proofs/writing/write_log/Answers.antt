@@ -1,6 +1,5 @@
 use Rattle.cweb_tools.proofs.Common.{[], sym, arith, chunks_of}
-use Rattle.cweb_tools.proofs.BufferedLog.{buffers_all, buffers_next, fails_at, writes_all, writes_prefix}
-use Rattle.cweb_tools.proofs.JoinedChunks.{bytes, joined_is}
+use Rattle.cweb_tools.proofs.BufferedLog.{buffers_all, buffers_next, fails_at, writes_all, writes_prefix, bytes, joined_is}
 use Rattle.cweb_tools.proofs.writing.write_log.Goals as goal
 
 pub returns-in_err-append_chunk : goal.returns-in_err-append_chunk

@@ -1,5 +1,5 @@
 use Rattle.cweb_tools.proofs.Common.{[], take, Buffers, chunks_of}
-use Rattle.cweb_tools.proofs.JoinedChunks.{joined}
+use Rattle.cweb_tools.proofs.BufferedLog.{joined}
 use Rattle.cweb_tools.proofs.writing.write_log.Given as goal
 
 abbrev pub invariant-chunks : goal.invariant-chunks

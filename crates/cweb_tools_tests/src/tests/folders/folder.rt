@@ -3,7 +3,7 @@ use super::runs::tangle_twice;
 use super::wanted::*;
 use cweb_lines::write_all;
 use cweb_out::{BinFault, Bins};
-use cweb_tools::{FileSet, FolderBins, StdFolder};
+use cweb_tools::{FolderShelf, StdFolder};
 use std::process::Abort;
 use std::rt::{Env, Files};
 use std::{env, fs};
@@ -81,6 +81,6 @@ fn check_in_folder<B: Bins>(rt: &(impl Abort + Env + Files + AllocGlobal), bins:
 #[test]
 fn files_of_a_folder_are_replaced_whole(rt: HostRuntime) {
     let fs = StdFolder::with_streams(rt.alloc(), &rt);
-    let mut bins = FolderBins::new(rt.alloc(), fs, FileSet::new(rt.alloc()));
+    let mut bins = FolderShelf::new(rt.alloc(), fs).into_bins(rt.alloc());
     check_in_folder(&rt, &mut bins);
 }

@@ -144,5 +144,8 @@ fn reads_the_system<S: Shelf>(rt: &impl Abort, shelf: &mut S) {
 
 #[test]
 fn files_of_the_system(rt: HostRuntime) {
-    reads_the_system(&rt, &mut FolderShelf::new(StdFolder::new(rt.alloc(), &rt)));
+    reads_the_system(
+        &rt,
+        &mut FolderShelf::new(rt.alloc(), StdFolder::new(rt.alloc(), &rt)),
+    );
 }

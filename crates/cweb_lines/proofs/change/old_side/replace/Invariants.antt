@@ -1,5 +1,4 @@
-use Rattle.cweb_lines.proofs.Common.{◌≡◌, ◌≤◌, ◌-◌, false, so_far_of, Replaces, old_side_of}
-use Rattle.cweb_files.specs.Shelves.{Observed}
+use Rattle.cweb_lines.proofs.Common.{◌≡◌, ◌≤◌, ◌-◌, false, so_far_of, Replaces, old_side_of, Observed}
 use Rattle.cweb_lines.proofs.NoReadFails.{Quiet}
 use Rattle.cweb_lines.proofs.change.old_side.replace.Given as goal
 

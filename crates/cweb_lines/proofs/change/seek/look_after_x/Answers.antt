@@ -1,5 +1,4 @@
-use Rattle.cweb_lines.proofs.Errors.{same_error}
-use Rattle.cweb_lines.proofs.Common.{[], append-nil, refl}
+use Rattle.cweb_lines.proofs.Common.{[], append-nil, refl, same_error}
 use Rattle.cweb_lines.proofs.change.seek.look_after_x.Goals as goal
 
 pub returns-in_err-report-clause-err : goal.returns-in_err-report-clause-err

@@ -1,6 +1,5 @@
-use Rattle.cweb_lines.proofs.Errors.{same_error}
-use Rattle.cweb_lines.proofs.Common.{rules, ◌≡◌, ℕ, [], ◌∷◌, List, Vec, Global, None, refl, ap, sym, subst, sought, counters_of, SourceLine, change_lines, so_far_of, opened_file_names, Searched, SeeksTo, LooksInPart, reported_faults, lines_at, SourceFault, Waiting, arith}
-use Rattle.cweb_lines.proofs.MergeReadersStayNamed.{knows_same}
+use Rattle.cweb_lines.proofs.Common.{rules, ◌≡◌, ℕ, [], ◌∷◌, List, Vec, Global, None, refl, ap, sym, subst, sought, counters_of, SourceLine, change_lines, so_far_of, opened_file_names, Searched, SeeksTo, LooksInPart, reported_faults, lines_at, SourceFault, Waiting, arith, same_error}
+use Rattle.cweb_lines.proofs.ReadersStayNamed.{knows_same}
 use Rattle.cweb_lines.proofs.ReportsOnlyGrow.{reported_if, took_faults, took_names}
 use Rattle.cweb_lines.proofs.NoReadFails.{Quiet, quiet_same, outcome_memory, reads_none, reads_reported, reads_set, reads_then, still_seen}
 use Rattle.cweb_lines.proofs.Seeks.{seeks_ended, seeks_ends, seeks_in_part, seeks_on, seeks_found}

@@ -1,5 +1,4 @@
-use Rattle.cweb_lines.proofs.Common.{◌≡◌, ◌≤◌, ◌-◌, length, None, sought, change_lines, so_far_of, opened_file_names, BegunKnown, SeeksTo}
-use Rattle.cweb_files.specs.Shelves.{Observed}
+use Rattle.cweb_lines.proofs.Common.{◌≡◌, ◌≤◌, ◌-◌, length, None, sought, change_lines, so_far_of, opened_file_names, BegunKnown, SeeksTo, Observed}
 use Rattle.cweb_lines.proofs.NoReadFails.{Quiet}
 use Rattle.cweb_lines.proofs.change.seek.seek.Given as goal
 

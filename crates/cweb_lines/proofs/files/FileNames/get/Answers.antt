@@ -1,5 +1,4 @@
-use Rattle.std.proofs.Common.{arith}
-use Rattle.std.proofs.lemmas.Grind.{common_steps}
+use Rattle.cweb_lines.proofs.Common.{arith, common_steps}
 use Rattle.cweb_lines.proofs.files.FileNames.get.Goals as goal
 
 pub returns : goal.returns

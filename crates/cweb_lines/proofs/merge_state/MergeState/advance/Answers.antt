@@ -1,6 +1,5 @@
 use Rattle.cweb_lines.proofs.Common.{refl, arith, length-map, pending_of, sources_next, top_of}
-use Rattle.cweb_lines.proofs.EmittedLines.{next-length}
-use Rattle.cweb_lines.proofs.Passes.{yields_next}
+use Rattle.cweb_lines.proofs.Passes.{next-length, yields_next}
 use Rattle.cweb_lines.proofs.merge_state.MergeState.advance.Goals as goal
 
 pub returns-clause-emitted : goal.returns-clause-emitted

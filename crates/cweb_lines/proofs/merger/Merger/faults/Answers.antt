@@ -1,5 +1,4 @@
-use Rattle.std.proofs.Common.{rules}
-use Rattle.cweb_lines.proofs.Common.{arith}
+use Rattle.cweb_lines.proofs.Common.{arith, rules}
 use Rattle.cweb_lines.proofs.MergeStateEvents.{files_in-at}
 use Rattle.cweb_lines.proofs.merger.Merger.faults.Goals as goal
 

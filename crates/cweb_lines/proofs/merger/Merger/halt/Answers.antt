@@ -1,4 +1,4 @@
-use Rattle.std.proofs.Common.{rules}
+use Rattle.cweb_lines.proofs.Common.{rules}
 use Rattle.cweb_lines.proofs.merger.Merger.halt.Goals as goal
 
 pub returns-clause-again : goal.returns-clause-again

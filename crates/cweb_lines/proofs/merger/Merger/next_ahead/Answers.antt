@@ -1,5 +1,4 @@
-use Rattle.std.proofs.Common.{rules}
-use Rattle.cweb_lines.proofs.Common.{◌≡◌, ◌-◌, ◌<◌, ◌∙◌, ℕ, List, None, Some, ap, arith, length, subst, get_or_default, IfSome, FitsLimitsAt, LooksAheadIn, IsStretchAt, pending_in, line_number, number_or_zero, top_of}
+use Rattle.cweb_lines.proofs.Common.{◌≡◌, ◌-◌, ◌<◌, ◌∙◌, ℕ, List, None, Some, ap, arith, length, subst, get_or_default, IfSome, FitsLimitsAt, LooksAheadIn, IsStretchAt, pending_in, line_number, number_or_zero, top_of, rules}
 use Rattle.cweb_lines.proofs.SourceStacks.{most_at}
 use Rattle.cweb_lines.proofs.Lookahead.{are_ahead, looks_next}
 use Rattle.cweb_lines.proofs.merger.Merger.next_ahead.Goals as goal

@@ -1,6 +1,6 @@
 use Rattle.cweb_lines.proofs.Common.{arith, length-map, pending_of, sources_next, top_of}
 use Rattle.cweb_lines.proofs.Lookahead.{borrows_lines}
-use Rattle.cweb_lines.proofs.EmittedLines.{next-length}
+use Rattle.cweb_lines.proofs.Passes.{next-length}
 use Rattle.cweb_lines.proofs.merger.Merger.take_ahead.Goals as goal
 
 pub returns : goal.returns

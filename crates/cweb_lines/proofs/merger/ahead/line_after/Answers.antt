@@ -8,9 +8,9 @@ overflow_add-result g c =
     let in_place = c.requires.before in
     omega (
       arith,
-      few_after (pending_in c.args.stage c.args.first.now) c.args.text.now fits.0 c.args.before c.in-Some.next
+      few_after (pending_in c.args.stage c.args.first.now) c.args.text.now fits.0 c.args.before c.in_ok-next.next
           in_place.0
-          fits.1 fits.2 in_place.1 c.in-Some.ensures.line c.in-Some.ensures.one,
+          fits.1 fits.2 in_place.1 c.in_ok-next.ensures.line c.in_ok-next.ensures.one,
     )
 
 pub overflow_add-result-2 : goal.overflow_add-result-2
@@ -19,9 +19,9 @@ overflow_add-result-2 g c =
     let in_place = c.requires.before in
     omega (
       arith,
-      few_after (pending_in c.args.stage c.args.first.now) c.args.text.now fits.0 c.args.before c.in-Some.next
+      few_after (pending_in c.args.stage c.args.first.now) c.args.text.now fits.0 c.args.before c.in_ok-next.next
           in_place.0
-          fits.1 fits.2 in_place.1 c.in-Some.ensures.line c.in-Some.ensures.one,
+          fits.1 fits.2 in_place.1 c.in_ok-next.ensures.line c.in_ok-next.ensures.one,
     )
 
 pub then-requires : goal.then-requires
@@ -30,10 +30,10 @@ then-requires g c =
     let in_place = c.requires.before in
     omega (
       arith,
-      c.in-Some.ensures.one,
-      few_after (pending_in c.args.stage c.args.first.now) c.args.text.now fits.0 c.args.before c.in-Some.next
+      c.in_ok-next.ensures.one,
+      few_after (pending_in c.args.stage c.args.first.now) c.args.text.now fits.0 c.args.before c.in_ok-next.next
           in_place.0
-          fits.1 fits.2 in_place.1 c.in-Some.ensures.line c.in-Some.ensures.one,
+          fits.1 fits.2 in_place.1 c.in_ok-next.ensures.line c.in_ok-next.ensures.one,
     )
 
 pub returns : goal.returns

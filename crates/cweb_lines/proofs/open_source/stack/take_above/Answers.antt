@@ -1,6 +1,4 @@
-use Rattle.cweb_lines.proofs.Errors.{same_error}
-use Rattle.cweb_lines.proofs.Common.{[], ap, rules, Some, ◌∙◌, arith}
-use Rattle.std.proofs.Common.{get_or-set_other}
+use Rattle.cweb_lines.proofs.Common.{[], ap, rules, Some, ◌∙◌, arith, same_error, get_or-set_other}
 use Rattle.cweb_lines.proofs.SourceStacks.{takes_same}
 use Rattle.cweb_lines.proofs.open_source.stack.take_above.Goals as goal
 

@@ -1,9 +1,5 @@
-use Rattle.cweb_lines.proofs.Common.{◌<◌, None, ◌≡◌, ◌≤◌, List, ℕ, counters_of}
+use Rattle.cweb_lines.proofs.Common.{◌<◌, None, ◌≡◌, ◌≤◌, List, ℕ, counters_of, Observed, Thing, AreReadersNamed, things_above, AreDeep, StaysBelow, files_up_to, line_number, maximum_of}
 use Rattle.std.specs.Prelude.{slice_index_or}
-use Rattle.cweb_files.specs.Shelves.{Observed}
-use Rattle.cweb_lines.specs.Lines.{Thing}
-use Rattle.cweb_lines.specs.surface.OpenSources.{AreReadersNamed, things_above}
-use Rattle.cweb_lines.specs.inner.OpenSources.{AreDeep, StaysBelow, files_up_to, line_number, maximum_of}
 use Rattle.cweb_lines.specs.inner.LineCalls.{KeepsNumbers}
 use Rattle.cweb_lines.proofs.open_source.stack.take_above.Given as goal
 

@@ -1,9 +1,5 @@
-use Rattle.std.specs.Prelude.{Ok, Option}
-use Rattle.cweb_lines.specs.declared.open_source.LineAt.{LineAt}
-use Rattle.cweb_lines.proofs.Errors.{same_error}
-use Rattle.cweb_lines.proofs.Common.{Err, common_steps, rules, ◌<◌, ◌-◌, length, refl, ◌∙◌, arith, None, counters_of}
+use Rattle.cweb_lines.proofs.Common.{Err, common_steps, rules, ◌<◌, ◌-◌, length, refl, arith, None, counters_of, Ok, Option, LineAt, same_error, files_up_to}
 use Rattle.std.proofs.lemmas.List.{get_or_default, set-set}
-use Rattle.cweb_lines.specs.inner.OpenSources.{files_up_to}
 use Rattle.cweb_lines.proofs.ReadersStayNamed.{names_set}
 use Rattle.cweb_lines.proofs.SourceStacks.{keeps_stack, most_read, top_taken, top_closed, top_stops, stops_map, stays_below, numbers_below, numbers_set, deep-at}
 use Rattle.cweb_lines.proofs.open_source.stack.take_top.Goals as goal
@@ -48,7 +44,7 @@ returns-in_default g c =
     let stack = c.args.stack.now in
     let within : stack.depth - 1 < length stack.texts = omega arith in
     let slot = c.index-stack-top.result in
-    let closed = c.close.ensures.texts ∙ set-set stack.texts (stack.depth - 1) c.take_from.new.slot None in
+    let closed = set-set stack.texts (stack.depth - 1) c.take_from.new.slot None in
     let takes = c.in_ok-at.ensures.takes in
     let counted = rw c.in_default.is at takes.answers.counted in
     record {

@@ -1,8 +1,4 @@
-use Rattle.cweb_lines.proofs.Errors.{same_error}
-use Rattle.cweb_lines.proofs.Common.{rules, ◌≡◌, ◌+◌, ◌∙◌, List, ℕ, [], bytes_left, counters_of, arith}
-use Rattle.std.specs.Prelude.{Option}
-use Rattle.cweb_files.specs.declared.place.FileId.{FileId}
-use Rattle.cweb_lines.specs.surface.OpenSources.{shelf_after}
+use Rattle.cweb_lines.proofs.Common.{rules, ◌≡◌, ◌+◌, ◌∙◌, List, ℕ, [], bytes_left, counters_of, arith, same_error, Option, FileId, shelf_after}
 use Rattle.cweb_lines.proofs.ReadersStayNamed.{blames_known, blames_some, line_blames}
 use Rattle.cweb_lines.proofs.TrimmedLines.{takes_first, line_stops, line_reads, line_needs, first_passes}
 use Rattle.cweb_lines.proofs.open_source.take.take_line.Goals as goal

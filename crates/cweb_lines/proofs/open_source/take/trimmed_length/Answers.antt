@@ -1,4 +1,4 @@
-use Rattle.cweb_lines.proofs.Common.{◌-◌, arith}
+use Rattle.cweb_lines.proofs.Common.{arith}
 use Rattle.cweb_lines.proofs.TrimmedLines.{trims_more, trims_all}
 use Rattle.cweb_lines.proofs.open_source.take.trimmed_length.Goals as goal
 

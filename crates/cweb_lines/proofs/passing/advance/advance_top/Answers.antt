@@ -1,5 +1,4 @@
-use Rattle.cweb_lines.proofs.Common.{◌≡◌, ◌+◌, ◌<◌, ◌-◌, length, refl, arith, get_or-set_same, get_or_default, files_up_to}
-use Rattle.cweb_lines.specs.inner.OpenSources.{maximum_of}
+use Rattle.cweb_lines.proofs.Common.{◌≡◌, ◌+◌, ◌<◌, ◌-◌, length, refl, arith, get_or-set_same, get_or_default, files_up_to, maximum_of}
 use Rattle.cweb_lines.proofs.ReadersStayNamed.{named_at, named_set}
 use Rattle.cweb_lines.proofs.SourceStacks.{top_passed, most_read, most_set, stays_below, deep-at, deep-set}
 use Rattle.cweb_lines.proofs.passing.advance.advance_top.Goals as goal

@@ -1,5 +1,5 @@
 use Rattle.cweb_lines.proofs.Common.{rules, ◌<◌, ◌∷◌, ℕ, List, Vec, Global, length, ap, sym, subst, ◌∙◌, arith, string_bytes, common_steps, opened_file_names, at_place, counters_of, world_in, found_at, Event, opening, SourceFault, NoName, TooDeep, NotThere}
-use Rattle.cweb_lines.proofs.MergeReadersStayNamed.{knows_only}
+use Rattle.cweb_lines.proofs.ReadersStayNamed.{knows_only}
 use Rattle.cweb_lines.proofs.ReportsOnlyGrow.{reported_if}
 use Rattle.cweb_lines.proofs.Found.{OnOk-map}
 use Rattle.cweb_lines.proofs.Merges.{yields_opening, merge_no_name, merge_too_deep, merge_not_there, merge_opens, empty_is, some_are}

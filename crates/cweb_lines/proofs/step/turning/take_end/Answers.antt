@@ -1,9 +1,8 @@
-use Rattle.cweb_lines.proofs.Errors.{same_error}
-use Rattle.cweb_lines.proofs.Common.{rules, ◌∷◌, List, length, ap, sym, ◌∙◌, refl, at_place, counters_of, world_in, Event, fault, so_far_of, opened_file_names, floor_of, NoMatch}
+use Rattle.cweb_lines.proofs.Common.{rules, ◌∷◌, List, length, ap, sym, ◌∙◌, refl, at_place, counters_of, world_in, Event, fault, so_far_of, opened_file_names, floor_of, NoMatch, same_error}
 use Rattle.cweb_lines.proofs.Merges.{yields_fault}
 use Rattle.cweb_lines.proofs.MergeStateEvents.{no_match, nothing_above}
 use Rattle.cweb_lines.proofs.NoReadFails.{quiet_same, reads_none, reads_reported, reads_set}
-use Rattle.cweb_lines.proofs.MergeReadersStayNamed.{knows_only}
+use Rattle.cweb_lines.proofs.ReadersStayNamed.{knows_only}
 use Rattle.cweb_lines.proofs.ReportsOnlyGrow.{reported_same}
 use Rattle.cweb_lines.proofs.step.turning.take_end.Goals as goal
 

@@ -1,5 +1,4 @@
-use Rattle.cweb_lines.proofs.Errors.{same_error}
-use Rattle.cweb_lines.proofs.Common.{Some, ap, sym, ◌∙◌, change_code, counters_of, so_far_of, arith}
+use Rattle.cweb_lines.proofs.Common.{Some, ap, sym, ◌∙◌, change_code, counters_of, so_far_of, arith, same_error}
 use Rattle.cweb_lines.proofs.ReportsOnlyGrow.{took_faults, took_names}
 use Rattle.cweb_lines.proofs.Found.{IfOk-map}
 use Rattle.cweb_lines.proofs.EmittedLinesAddUp.{yields_took}

@@ -1,5 +1,4 @@
-use Rattle.cweb_lines.proofs.Errors.{same_error}
-use Rattle.cweb_lines.proofs.Common.{Some, ◌≡◌, counters_of, pending_of, so_far_of, CountsLine, events_to_come, events_after_line, begun_by, arith}
+use Rattle.cweb_lines.proofs.Common.{Some, ◌≡◌, counters_of, pending_of, so_far_of, CountsLine, events_to_come, events_after_line, begun_by, arith, same_error, ShelfContents}
 use Rattle.cweb_lines.proofs.ReportsOnlyGrow.{took_faults, took_names}
 use Rattle.cweb_lines.proofs.Found.{IfOk-map}
 use Rattle.cweb_lines.proofs.Stops.{stopped_by, stops_unreported, reported_stays, things_first, unreported}
@@ -7,7 +6,6 @@ use Rattle.cweb_lines.proofs.EmittedLinesAddUp.{yields_took}
 use Rattle.cweb_lines.proofs.MergeStateEvents.{stops_in}
 use Rattle.cweb_lines.proofs.SourceStacks.{stops_map}
 use Rattle.cweb_lines.proofs.Turns.{began_yields, began_stops, began_tells, raw_taken}
-use Rattle.cweb_files.specs.Shelves.{ShelfContents}
 use Rattle.cweb_lines.proofs.NoReadFails.{reads_obeyed, reads_then, still_seen}
 use Rattle.cweb_lines.proofs.step.turning.take_settled.Given as given
 use Rattle.cweb_lines.proofs.step.turning.take_settled.Goals as goal

@@ -1,5 +1,4 @@
-use Rattle.cweb_lines.proofs.Errors.{same_error}
-use Rattle.cweb_lines.proofs.Common.{rules, arith}
+use Rattle.cweb_lines.proofs.Common.{rules, arith, same_error}
 use Rattle.cweb_lines.proofs.NoReadFails.{quiet_same}
 use Rattle.cweb_lines.proofs.Turns.{sought_yields, sought_stops, sought_tells}
 use Rattle.cweb_lines.proofs.step.turning.take_turn.Goals as goal

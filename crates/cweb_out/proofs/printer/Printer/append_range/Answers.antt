@@ -6,7 +6,7 @@ pub invariant_of-buffer : goal.invariant_of-buffer
 invariant_of-buffer c = grind (arith, whole_again)
 
 pub returns-clause-moves : goal.returns-clause-moves
-returns-clause-moves c = rw c.class_after_edge.ensures c.put_range-reached.ensures.moves
+returns-clause-moves c = c.put_range-reached.ensures.moves
 
 pub returns-clause-prints : goal.returns-clause-prints
 returns-clause-prints c = grind (arith, whole_again)

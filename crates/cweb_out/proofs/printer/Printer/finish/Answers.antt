@@ -9,7 +9,7 @@ use Rattle.cweb_out.proofs.printer.Printer.finish.Goals as goal
 
 pub returns-in_err-append_printable-clause-ends : goal.returns-in_err-append_printable-clause-ends
 returns-in_err-append_printable-clause-ends g c = record {
-  bytes = begin_by (left_in_printer c.args.self.now).class;
+  bytes = begin_by (left_in_printer c.args.self.now).last;
   expected = λ ts is. file-end (setting_of c.args.self.now) (left_in_printer c.args.self.now) ts is;
   wrote = wrote_err _ _ _ _ c.from_residual.result c.from_residual.ensures.0 refl c.in_err-append_printable.ensures;
 }
@@ -17,7 +17,7 @@ returns-in_err-append_printable-clause-ends g c = record {
 -- All was printed, and the flush failed.
 pub returns-in_err-flush-clause-ends : goal.returns-in_err-flush-clause-ends
 returns-in_err-flush-clause-ends g c =
-    let bytes = begin_by (left_in_printer c.args.self.now).class in
+    let bytes = begin_by (left_in_printer c.args.self.now).last in
     record {
       bytes = bytes;
       expected = λ ts is. file-end (setting_of c.args.self.now) (left_in_printer c.args.self.now) ts is;

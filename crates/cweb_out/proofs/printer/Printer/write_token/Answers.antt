@@ -6,9 +6,9 @@ use Rattle.cweb_out.proofs.printer.Printer.write_token.Goals as goal
 
 -- The token's bytes as three parts.
 in_three : (p : Printer) (t : Token) (apart : Bool) → is_dropped (left_in_printer p) t ≡ false
-    → apart ≡ is_apart (left_in_printer p).class t → added (file_by (setting_of p)) (left_in_printer p) t
+    → apart ≡ is_apart (left_in_printer p).last t → added (file_by (setting_of p)) (left_in_printer p) t
     ≡ blank_where apart
-    ++ (own_line_bytes (setting_of p) (left_in_printer p).class t ++ plain_bytes (setting_of p).replaced t)
+    ++ (own_line_bytes (setting_of p) (left_in_printer p).last t ++ plain_bytes (setting_of p).replaced t)
 in_three p t apart stays is = cc (stays, is)
 
 pub returns-in_err-write_blank : goal.returns-in_err-write_blank

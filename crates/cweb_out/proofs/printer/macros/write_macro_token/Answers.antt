@@ -1,4 +1,4 @@
-use Rattle.cweb_out.proofs.Common.{◌∙◌, sym, ap, false, Some, option_map, Class, token_bytes_model}
+use Rattle.cweb_out.proofs.Common.{◌∙◌, sym, ap, Some, option_map, token_bytes_model}
 use Rattle.cweb_files.proofs.Appending.{wrote_as}
 use Rattle.cweb_out.proofs.AppendedParts.{wrote_err}
 use Rattle.cweb_out.proofs.Continued.{direct_added, direct_leaves}
@@ -17,8 +17,7 @@ pub returns-in-false-Some-clause-next : goal.returns-in-false-Some-clause-next
 returns-in-false-Some-clause-next g c =
     let l = token_bytes_model c.in-false-Some.direct in
     let is = c.direct.ensures ∙ ap (λ o. Some (option_map token_bytes_model o)) c.in-false-Some.is-1 in
-    ap (λ (k : Class). record { class = k; joined = false }) c.class_after_edge.ensures
-    ∙ sym (direct_leaves c.args.store.now c.args.left c.args.number l c.in-false-Some.is-0
+    sym (direct_leaves c.args.store.now c.args.left c.args.number l c.in-false-Some.is-0
     c.args.token_reader.now c.requires.reader is)
 
 pub returns-in-false-Some-clause-wrote : goal.returns-in-false-Some-clause-wrote

@@ -3,7 +3,7 @@ use Rattle.cweb_files.proofs.Appending.{written_none, written_then}
 use Rattle.cweb_out.proofs.AppendedParts.{second_until}
 use Rattle.cweb_out.proofs.MacroLines.{left_more, none_added, one_added, tokens_at}
 use Rattle.cweb_out.proofs.Ranges.{there}
-use Rattle.cweb_out.specs.inner.Classes.{token_at}
+use Rattle.cweb_out.specs.inner.Edges.{token_at}
 use Rattle.cweb_out.proofs.printer.macros.write_macro_tokens.Goals as goal
 
 pub tokens-init : goal.tokens-init

@@ -6,7 +6,7 @@ use Rattle.cweb_out.proofs.printer.macros.write_spaced.Goals as goal
 
 -- The token's bytes as three parts.
 in_three : (replaced : ℕ → List ℕ) (left : Left) (t : Token) (apart : Bool) (continued : List ℕ)
-    → is_dropped left t ≡ false → apart ≡ is_apart left.class t → continued ≡ continuation_bytes t
+    → is_dropped left t ≡ false → apart ≡ is_apart left.last t → continued ≡ continuation_bytes t
     → added (macro_by replaced) left t ≡ blank_where apart ++ (continued ++ plain_bytes replaced t)
 in_three replaced left t apart continued stays is continues = cc (stays, is, continues)
 

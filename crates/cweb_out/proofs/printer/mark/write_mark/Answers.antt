@@ -1,7 +1,7 @@
 use Rattle.std.proofs.Common.{arith}
 use Rattle.cweb_out.proofs.Common.{◌≡◌, ◌++◌, List, ℕ, codes, decimal, append_assoc, mark_line}
 use Rattle.cweb_files.proofs.Appending.{wrote_then, wrote_until, wrote_same}
-use Rattle.cweb_out.specs.inner.Classes.{file_name_end}
+use Rattle.cweb_out.specs.inner.Edges.{file_name_end}
 use Rattle.cweb_out.proofs.printer.mark.write_mark.Goals as goal
 
 -- The mark as its two parts.

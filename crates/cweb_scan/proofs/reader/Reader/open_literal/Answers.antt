@@ -1,7 +1,7 @@
 use Rattle.cweb_lines.proofs.Found.{IfOk-map}
 use Rattle.cweb_scan.proofs.Common.{sym, ap, ◌∙◌, arith, drop, ◌+◌, literal_match, look_in_literal, IsLine-take, ap, refl}
 use Rattle.cweb_rules.specs.inner.LineItems.{goes_on}
-use Rattle.cweb_rules.proofs.LineLiterals.{is_quoted-size}
+use Rattle.cweb_rules.proofs.TokenSizes.{is_quoted-size}
 use Rattle.cweb_rules.proofs.UnitNewlines.{none-ends}
 use Rattle.cweb_scan.proofs.InLineItemSteps.{whole_at}
 use Rattle.cweb_scan.proofs.PendingLiterals.{is_literal, quote_as}
@@ -23,8 +23,8 @@ returns c =
     let h = c.args.self.now in
     let p = c.literal_prefix-prefix.ensures.value in
     let is = is_literal h.state u c.requires.next.context c.requires.past c.requires.plain c.requires.opens in
-    let quote = quote_as u u u c.split_at.result.1.now c.literal_prefix-prefix.result c.byte.result refl refl p
-    c.split_at.ensures.back (c.byte.ensures ∙ c.of-quote.ensures) in
+    let quote = quote_as u u u c.split_at.result.1.now c.literal_prefix-prefix.result c.quote_of-quote.result refl refl
+    p c.split_at.ensures.back c.quote_of-quote.ensures in
     let inner = c.split_at-2.ensures.back ∙ ap (λ n. drop (n + 1) u) p in
     let ends = sym (λ i. goes_on (look_in_literal (quote i)) (inner i)) ∙ sym c.continues.ensures
     ∙ c.if-continues.false in

@@ -29,10 +29,10 @@ returns-in-Literal c =
     c.self.invariant in
     let pending = subst (λ (k : Open). IsPending k r.scanner.context w r.places.items) c.in-Literal.is now.source in
     c.continues.ensures ∙ ap (λ q. goes_on (look_in_literal q) c.args.line.now) (quote_as w c.deref.result.now
-    c.deref-in-Literal.result.now c.split_at.result.1.now c.literal_prefix-prefix.result c.byte.result
+    c.deref-in-Literal.result.now c.split_at.result.1.now c.literal_prefix-prefix.result c.quote_of-quote.result
     c.deref.ensures.value
     c.deref-in-Literal.ensures.value c.literal_prefix-prefix.ensures.value c.split_at.ensures.back
-    (c.byte.ensures ∙ c.of-quote.ensures))
+    c.quote_of-quote.ensures)
     ∙ sym (stays_on Literal r.scanner w c.args.line.now r.places.items (λ i. false) pending)
     ∙ ap (λ (h : ReaderModel). opens_in h.state.context (with_line (pending_text h.item) c.args.line.now)) now.view
 

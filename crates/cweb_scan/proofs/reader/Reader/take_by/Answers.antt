@@ -4,13 +4,14 @@ use Rattle.cweb_scan.proofs.Common.{◌&&◌, false, ap, sym, ◌∙◌, section
 use Rattle.cweb_scan.proofs.InLineItemSteps.{closed_at}
 use Rattle.cweb_scan.proofs.InLineRules.{closes, rule_closed}
 use Rattle.cweb_scan.proofs.RuleSteps.{ends_closes, is_ended, left_ends, part_head, rule_in_line, two_fit}
-use Rattle.cweb_scan.proofs.FirstMatchTaken.{seen}
+use Rattle.cweb_rules.proofs.FirstRules.{seen}
 use Rattle.cweb_scan.proofs.reader.Reader.take_by.Goals as goal
 
 pub open_comment-requires-clause-opens : goal.open_comment-requires-clause-opens
 open_comment-requires-clause-opens c =
     let s = c.args.self.now.state in
-    seen (is_c s.context && names_include s) c.args.rest.bytes.now rule.Comment (sym c.requires.first ∙ c.in-Comment.is)
+    (seen (is_c s.context && names_include s) c.args.rest.bytes.now rule.Comment (sym c.requires.first
+    ∙ c.in-Comment.is)).1
 
 pub take_code-requires-clause-opens : goal.take_code-requires-clause-opens
 take_code-requires-clause-opens c =

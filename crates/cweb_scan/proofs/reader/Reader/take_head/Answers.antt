@@ -4,12 +4,12 @@ use Rattle.cweb_rules.specs.declared.rule.Rule.TheVariants as rule
 use Rattle.cweb_scan.proofs.HeadSteps.{dropped_at, foreign_rule}
 use Rattle.cweb_scan.proofs.HeadStays.{blanks_pass, head_passes}
 use Rattle.cweb_scan.proofs.RuleSteps.{is_ended, rule_in_line, two_fit}
-use Rattle.cweb_scan.proofs.FirstMatchTaken.{seen}
+use Rattle.cweb_rules.proofs.FirstRules.{seen}
 use Rattle.cweb_scan.proofs.reader.Reader.take_head.Goals as goal
 
 pub open_comment-requires-clause-opens : goal.open_comment-requires-clause-opens
 open_comment-requires-clause-opens c =
-    seen false c.args.rest.bytes.now rule.Comment (sym c.c_rule-rule.ensures ∙ c.in-Comment.is)
+    (seen false c.args.rest.bytes.now rule.Comment (sym c.c_rule-rule.ensures ∙ c.in-Comment.is)).1
 
 pub take_line_comment-requires-clause-two : goal.take_line_comment-requires-clause-two
 take_line_comment-requires-clause-two c =

@@ -1,8 +1,7 @@
 use Rattle.cweb_store.proofs.Common.{append-nil, ◌++◌, common_steps, ◌≡◌, ◌<◌, ℕ, List, [], ◌∷◌, arith, filter, length, InternsToken, StringIsWithin, token_of_record, has_string, string_at, Place, Record}
 use Rattle.cweb_store.proofs.StringListLemmas.{get-string}
 use Rattle.cweb_store.specs.inner.StringTables.{StringTableModel, AddsString, InternsWord}
-use Rattle.cweb_store.specs.surface.StringTables.{with_word}
-use Rattle.cweb_store.specs.surface.Tokens.{other_bytes, with_word_of}
+use Rattle.cweb_store.specs.surface.Tokens.{with_word, other_bytes, with_word_of}
 use Rattle.std.proofs.lemmas.Option.{slice_get_within}
 use Rattle.cweb_store.specs.declared.tokens.records.Record.TheVariants.{Mark}
 use Rattle.cweb_store.specs.Parts as spec

@@ -1,6 +1,5 @@
 use Rattle.std.proofs.Common.{◌≡◌, ◌∙◌, Some}
-use Rattle.cweb_system.proofs.Faults.{is_memory}
-use Rattle.cweb_system.proofs.Keys.{key_self}
+use Rattle.cweb_system.proofs.Keys.{is_memory, key_self}
 use Rattle.cweb_system.proofs.drafts.creating.locked_left.Goals as goal
 
 pub returns-in_err-found-in-Ok-clause-memory : goal.returns-in_err-found-in-Ok-clause-memory

@@ -1,4 +1,4 @@
-use Rattle.cweb_system.specs.FileSet.{keys_in}
+use Rattle.cweb_system.specs.Steps.{keys_in}
 use Rattle.cweb_system.proofs.SetMembership.{among}
 use Rattle.cweb_system.proofs.file_set.FileSet.contains.Goals as goal
 

@@ -1,4 +1,4 @@
-use Rattle.cweb_system.specs.FileSet.{keys_in}
+use Rattle.cweb_system.specs.Steps.{keys_in}
 use Rattle.cweb_system.proofs.SetMembership.{kept_among, only_among}
 use Rattle.cweb_system.proofs.file_set.FileSet.insert.Goals as goal
 

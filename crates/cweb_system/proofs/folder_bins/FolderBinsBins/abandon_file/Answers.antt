@@ -1,5 +1,5 @@
 use Rattle.std.proofs.Common.{arith}
-use Rattle.cweb_system.proofs.Folders.{steps_kept}
+use Rattle.cweb_system.proofs.Steps.{steps_kept}
 use Rattle.cweb_system.proofs.folder_bins.FolderBinsBins.abandon_file.Goals as goal
 
 pub invariant_of-self : goal.invariant_of-self

@@ -2,8 +2,8 @@ use Rattle.std.proofs.Common.{◌≡◌, ◌∙◌, ◌++◌, ◌∷◌, [], Lis
 use Rattle.std.specs.Prelude.{All, filter}
 use Rattle.std.proofs.lemmas.List.Elements.{All-filter, All-push}
 use Rattle.cweb_system.specs.declared.written.WrittenFile.{WrittenFile}
-use Rattle.cweb_system.specs.FileSet.{keys_in}
-use Rattle.cweb_system.specs.inner.Keys.{is_among}
+use Rattle.cweb_system.specs.Steps.{keys_in}
+use Rattle.cweb_system.specs.inner.Written.{is_among}
 use Rattle.cweb_system.proofs.Views.{is_other, none_removed}
 use Rattle.cweb_system.proofs.run_files.RunFiles.put.Goals as goal
 use Rattle.cweb_system.proofs.run_files.RunFiles.put.Goals.{then-replaces, else-replaces}

@@ -1,6 +1,6 @@
 use Rattle.cweb_tools.proofs.Common.{◌<◌, ◌∙◌, ℕ, List, length, map, sym, arith, opened_file_names, LogItem, line, source_item, scan_item, name_item}
 use Rattle.std.proofs.lemmas.List.{length-map}
-use Rattle.cweb_tools.proofs.JoinedChunks.{at_lines}
+use Rattle.cweb_tools.proofs.BufferedLog.{at_lines}
 use Rattle.cweb_tools.proofs.log_text.LogText.chunk.Goals as goal
 
 within : {X : Type 0} (f : X → LogItem) (xs : List X) (i : ℕ) → i < length (map line (map f xs)) → i < length xs

@@ -1,5 +1,5 @@
 use Rattle.cweb_tools.proofs.Common.{length, ap, arith, scanned_model, files_of}
-use Rattle.cweb_tools.proofs.FaultItems.{all_counted}
+use Rattle.cweb_tools.proofs.Logging.{all_counted}
 use Rattle.cweb_tools.proofs.web.Web.fault_count.Goals as goal
 
 pub returns-clause-count : goal.returns-clause-count

@@ -1,5 +1,5 @@
 use Rattle.cweb_tools.proofs.Common.{refl, inl, arith}
-use Rattle.cweb_tools.proofs.WordCounts.{no_words, too_many_words}
+use Rattle.cweb_tools.proofs.RequestedOptions.{no_words, too_many_words}
 use Rattle.cweb_tools.proofs.words.MergeWords.read.Goals.{in_default-via-then-words-lt1, in_default-via-else-words-lt1+else-words-lt2+else-words-lt3}
 use Rattle.cweb_tools.proofs.words.MergeWords.read.Goals as goal
 

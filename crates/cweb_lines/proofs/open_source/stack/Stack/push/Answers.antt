@@ -9,7 +9,6 @@ returns-clause-pushes g c =
     pushed self (record {
       texts = set self.texts self.depth (Some c.args.text);
       depth = self.depth + 1;
-      buffers = grind arith;
     }) c.args.text within refl refl
 
 pub returns-clause-below : goal.returns-clause-below

@@ -20,7 +20,7 @@ loop-range-preserved c = record {
       let items = c.deref-range-items.result.now in
       let i = c.loop-range.range-index in
       let r : PartRange = get_or items i (record { kind = Unnamed; part = record { first = 0; after = 0 } }) in
-      let shape = closed_in c.self.inside.tokens.tokens in
+      let shape = closed_in c.self.inside.tokens in
       let here : drop i items ≡ r ∷ drop (suc i) items = drop-cons items i _ (omega (arith, c.loop-range-test.true)) in
       let next : suc i ≡ i + 1 = omega arith in
       let was = flag_of c.loop-range.used.items n in

@@ -5,6 +5,6 @@ abbrev pub invariant-loop-range : goal.invariant-loop-range
 invariant-loop-range l = record {
   size : length l.used.items ≡ l.names;
   same : (n : NameId) → (flag_of l.used.items n
-      || is_used l.resolutions (map (closed_in l.self-inside.tokens.tokens) (drop l.range-index l.range-items)) n)
-      ≡ is_used l.resolutions (map (closed_in l.self-inside.tokens.tokens) l.range-items) n;
+      || is_used l.resolutions (map (closed_in l.self-inside.tokens) (drop l.range-index l.range-items)) n)
+      ≡ is_used l.resolutions (map (closed_in l.self-inside.tokens) l.range-items) n;
 }

@@ -7,7 +7,7 @@ uses-init c = record {
   within = c.next_use-next.ensures.within;
   size = refl;
   same = λ n. ap (λ b. flag_of c.args.used.now n || b)
-      (sym (uses-from-next c.args.resolutions.now n c.args.self.now.tokens c.args.part c.next_use-next.result
+      (sym (uses-from-next c.args.resolutions.now n c.args.self.now c.args.part c.next_use-next.result
       c.next_use-next.ensures));
 }
 

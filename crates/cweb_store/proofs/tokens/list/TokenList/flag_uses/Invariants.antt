@@ -6,9 +6,9 @@ invariant-uses l = record {
   within : l.next ≤ l.part.after;
   size : length l.used ≡ length l.fn.used;
   same : (n : NameId)
-      → (flag_of l.used n || list_any (is_use l.resolutions n) (slice_range l.self.tokens l.next l.part.after))
+      → (flag_of l.used n || list_any (is_use l.resolutions n) (slice_range l.self l.next l.part.after))
       ≡ (flag_of l.fn.used n
-      || list_any (is_use l.resolutions n) (slice_range l.self.tokens l.part.first l.part.after));
+      || list_any (is_use l.resolutions n) (slice_range l.self l.part.first l.part.after));
 }
 
 abbrev pub decreases-uses : goal.decreases-uses

@@ -1,5 +1,0 @@
-use Rattle.std.proofs.Common.{rules}
-use Rattle.cweb_store.proofs.builder.Builder.is_open.Goals as goal
-
-pub returns : goal.returns
-returns c = search rules
