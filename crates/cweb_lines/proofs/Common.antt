@@ -94,7 +94,10 @@ pub use Rattle.cweb_lines.specs.inner.StepCalls.{KeepsReaders, OnlyOpens, OnlyTa
 pub use Rattle.cweb_lines.specs.laws.Laws.{is_change_code, IncludeLinesAreReplaced, Includes, LinesComeApart}
 pub use Rattle.cweb_lines.specs.laws.Laws.{UnmatchedEntriesAreReported, WebsWithoutIncludesAreTheirOwnLines}
 pub use Rattle.cweb_lines.specs.laws.Laws.{outcome_of_events, followed_by, lines, only_lines, MergeOutcome}
-pub use Rattle.cweb_lines.specs.laws.Laws.{outcome_of_lines, placed, placed_line, only_fault}
+pub use Rattle.cweb_lines.specs.laws.Laws.{outcome_of_lines, merge_outcome, placed, placed_line, only_fault}
+pub use Rattle.cweb_lines.specs.laws.Laws.{HasOneEntry}
+pub use Rattle.cweb_lines.specs.laws.Laws.{ChangeFilesWithoutEntriesChangeNothing, ChangesReplaceLines}
+pub use Rattle.cweb_lines.specs.laws.Laws.{fault_renumbered, file_with_change, line_renumbered, renumbered}
 pub use Rattle.cweb_lines.specs.surface.MergeProgress.{merge}
 pub use Rattle.cweb_lines.specs.surface.MergeProgress.{SoFar, EmitsLines, ReportsPrefix, ReadsNext, IsAtEnd, Stopped}
 pub use Rattle.cweb_lines.specs.surface.MergeProgress.{pending_of, so_far_of, IsPrefix, KeepsReported, change_lines}

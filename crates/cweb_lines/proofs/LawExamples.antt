@@ -1,5 +1,5 @@
 -- Worked examples of the laws: their premises can be met.
-use Rattle.cweb_lines.proofs.Common.{◌≡◌, true, false, List, [], ◌∷◌, ◌++◌, Option, Some, None, refl, cond, codes, option_map, bytes_eq, list_any, lines, lines_in, World, is_include_line, Includes, is_change_code, MergeOutcome, only_lines, placed, outcome_of_events, Event, raws, run_steps, started, written_lines, NoMatch, NoName}
+use Rattle.cweb_lines.proofs.Common.{◌≡◌, true, false, List, [], ◌∷◌, ◌++◌, Option, Some, None, refl, cond, codes, option_map, bytes_eq, list_any, lines, lines_in, World, is_include_line, Includes, is_change_code, HasOneEntry, ChangesReplaceLines, merge_outcome, renumbered, file_with_change, MergeOutcome, only_lines, placed, outcome_of_events, Event, raws, run_steps, started, written_lines, NoMatch, NoName}
 use Rattle.std.specs.Str.{is_utf8, chars}
 use lib.Utf8.{encode}
 
@@ -33,6 +33,29 @@ before_and_after = record {
   included = codes "b" ∷ [];
 }
 
+-- The entry replaces two lines, the second an include line, by three.
+one_entry : HasOneEntry (lines (codes "@x that\nB\n@i gone\n@Y\nb\n\nbb\n@z")) (codes "B" ∷ codes "@i gone" ∷ [])
+    (codes "b" ∷ [] ∷ codes "bb" ∷ [])
+one_entry = record {
+  x = codes "@x that";
+  y = codes "@Y";
+  z = codes "@z";
+  whole = refl;
+  begins = refl;
+  turns = refl;
+  ends = refl;
+  others = refl;
+}
+
+-- The law at this entry. The line before it begins like its first line.
+replaced_lines : ChangesReplaceLines → merge_outcome no_texts (codes "BA\nB\n@i gone\nB\nD")
+    (Some (codes "@x that\nB\n@i gone\n@Y\nb\n\nbb\n@z"))
+    ≡ only_lines (placed 0 1 (codes "BA" ∷ []) ++ placed 1 5 (codes "b" ∷ [] ∷ codes "bb" ∷ [])
+    ++ placed 0 4 (codes "B" ∷ codes "D" ∷ []))
+replaced_lines law = law no_texts (codes "BA\nB\n@i gone\nB\nD") (codes "@x that\nB\n@i gone\n@Y\nb\n\nbb\n@z")
+    (codes "B") (codes "BA" ∷ []) (codes "@i gone" ∷ []) (codes "B" ∷ codes "D" ∷ [])
+    (codes "b" ∷ [] ∷ codes "bb" ∷ []) refl one_entry (λ is. cc) refl refl
+
 record Computed : Type 0 where
   web_without_includes : list_any is_include_line (lines (codes "one \n\n@ two")) ≡ false
   its_own_lines : seen_by (run_steps 10 no_texts (started (codes "one \n\n@ two") None))
@@ -46,11 +69,18 @@ record Computed : Type 0 where
         faults = record { kind = NoName; place = record { file = record { 0 = 2 }; line = 2 }; count = 0 } ∷ [];
         included = codes "b" ∷ [];
       })
+  it_is_as_without_it : option_map (renumbered file_with_change)
+      (seen_by (run_steps 20 a_file_included (started (codes "A\n@i b\n") None)))
+      ≡ seen_by (run_steps 20 a_file_included (started (codes "A\n@i b\n") (Some (codes "a comment\n@ alone\n"))))
   it_prints : option_map (λ s. written_lines s.lines) changed_web ≡ Some (codes "B\nC\n")
   it_prints_again : option_map (λ s. written_lines s.lines)
       (seen_by (run_steps 30 no_texts (started (codes "B\nC\n") None)))
       ≡ Some (codes "B\nC\n")
   it_is_replaced : seen_by (run_steps 20 a_file_included (started (codes "A\n@i b\nC\n") None)) ≡ Some before_and_after
+  it_is_replaced_by_new_lines : seen_by (run_steps 30 no_texts (started (codes "BA\nB\n@i gone\nB\nD")
+      (Some (codes "@x that\nB\n@i gone\n@Y\nb\n\nbb\n@z"))))
+      ≡ Some (only_lines (placed 0 1 (codes "BA" ∷ []) ++ placed 1 5 (codes "b" ∷ [] ∷ codes "bb" ∷ [])
+      ++ placed 0 4 (codes "B" ∷ codes "D" ∷ [])))
   -- the second entry is never reached
   entry_without_match : seen_by
       (run_steps 30 no_texts (started (codes "A\n") (Some (codes "why\n@x\nZ\n@z\n@x\nA\n@y\n@z\n"))))

@@ -1,6 +1,6 @@
 -- What holds of every merge, in the words of an author of webs: the outcome of a merge, and laws on it.
 use Rattle.std.specs.Prelude.{ℕ, ◌+◌, true, List, [], ◌∷◌, ◌++◌, map, Option, None, ◌≡◌, ◌≢◌, ◌<◌, ◌≤◌, Bool, false}
-use Rattle.std.specs.Prelude.{length, Some}
+use Rattle.std.specs.Prelude.{length, Some, zero, suc}
 use Rattle.cweb_lines.specs.Lines.{Place, Line, SourceLine, cut_lines, raws, trimmed, lines_in}
 use Rattle.cweb_lines.specs.Include.{World, found_at, include_name, is_include_line}
 use Rattle.cweb_lines.specs.Change.{at_place, change_code}
@@ -11,7 +11,8 @@ use Rattle.cweb_lines.specs.declared.fault.SourceKind.{SourceKind}
 use Rattle.std.specs.List.{list_any}
 use Rattle.std.specs.Option.{is_some}
 use Rattle.std.specs.Str.{bytes_eq}
-use Rattle.cweb_lines.specs.declared.change.code.Code.TheVariants.{OldSide as old_side}
+use Rattle.cweb_lines.specs.declared.change.code.Code.TheVariants.{OldSide as old_side, NewSide as new_side}
+use Rattle.cweb_lines.specs.declared.change.code.Code.TheVariants.{EndSide as end_side}
 use Rattle.cweb_lines.specs.declared.fault.SourceKind.TheVariants.{NoMatch, NoName, NotThere, TooDeep}
 
 -- The trimmed lines of a file. A last line without newline that has only blanks is an empty line.
@@ -59,6 +60,27 @@ only_name name = record { lines = []; faults = []; included = name ∷ [] }
 abbrev pub only_fault : SourceKind → Place → MergeOutcome
 only_fault kind place = record { lines = []; faults = at_place kind place ∷ []; included = [] }
 
+-- The outcome with other file numbers.
+abbrev pub place_renumbered : (ℕ → ℕ) → Place → Place
+place_renumbered number place = record { file = record { 0 = number place.file.0 }; line = place.line }
+
+abbrev pub line_renumbered : (ℕ → ℕ) → Line → Line
+line_renumbered number line = record { bytes = line.bytes; place = place_renumbered number line.place }
+
+abbrev pub fault_renumbered : (ℕ → ℕ) → SourceFault → SourceFault
+fault_renumbered number fault = record {
+  kind = fault.kind;
+  place = place_renumbered number fault.place;
+  count = fault.count;
+}
+
+abbrev pub renumbered : (ℕ → ℕ) → MergeOutcome → MergeOutcome
+renumbered number all = record {
+  lines = map (line_renumbered number) all.lines;
+  faults = map (fault_renumbered number) all.faults;
+  included = all.included;
+}
+
 -- The outcome for lines at a depth, with no change to come and this number of opened files.
 abbrev pub outcome_of_lines : World → ℕ → ℕ → List SourceLine → MergeOutcome
 outcome_of_lines world depth files lines =
@@ -70,14 +92,14 @@ outcome_of_lines world depth files lines =
           files;
     }))
 
--- Some number of steps is enough, and each one that is enough yields the same events.
-pub record IsTheAnswer (world : World) (s : MergeStateModel) : Type 0 where
-  pub events : List Event
+-- Some number of steps yields these events, and each other number that is enough yields the same.
+pub record IsTheAnswer (world : World) (s : MergeStateModel) (events : List Event) : Type 0 where
   pub yields : Yields world s events
   pub only : (others : List Event) → Yields world s others → others ≡ events
 
+-- The one answer of a merge is `merge`, which the contracts cite.
 abbrev pub HasOneAnswer : Type 0
-HasOneAnswer = (world : World) (s : MergeStateModel) → IsTheAnswer world s
+HasOneAnswer = (world : World) (s : MergeStateModel) → IsTheAnswer world s (merge world s)
 
 -- A web without include lines and change file merges to its own lines, in order, numbered and without a fault.
 abbrev pub WebsWithoutIncludesAreTheirOwnLines : Type 0
@@ -88,6 +110,39 @@ WebsWithoutIncludesAreTheirOwnLines = (world : World) (web : List ℕ)
 -- The line begins with @x, @y or @z.
 abbrev pub is_change_code : List ℕ → Bool
 is_change_code line = is_some (change_code line)
+
+-- The number of a file if there is a change file. That is file 1, so each included file has the next higher number.
+abbrev pub file_with_change : ℕ → ℕ
+file_with_change zero = zero
+file_with_change (suc file) = suc (suc file)
+
+-- A change file without entries changes nothing but the numbers of files.
+abbrev pub ChangeFilesWithoutEntriesChangeNothing : Type 0
+ChangeFilesWithoutEntriesChangeNothing = (world : World) (web change : List ℕ)
+    → list_any is_change_code (lines change) ≡ false
+    → merge_outcome world web (Some change) ≡ renumbered file_with_change (merge_outcome world web None)
+
+-- The lines of a change file with one entry: @x, the old lines, @y, the new lines and @z.
+pub record HasOneEntry (change old new : List (List ℕ)) : Type 0 where
+  pub x : List ℕ
+  pub y : List ℕ
+  pub z : List ℕ
+  pub whole : change ≡ x ∷ old ++ y ∷ new ++ z ∷ []
+  pub begins : change_code x ≡ Some old_side
+  pub turns : change_code y ≡ Some new_side
+  pub ends : change_code z ≡ Some end_side
+  pub others : list_any is_change_code (old ++ new) ≡ false
+
+-- A change file has one entry, whose old lines are in the web, and its first old line isn't empty and not before them.
+-- Then the new lines stand in their place, each line has the place of its own file, and there is no fault. Only old
+-- lines may be include lines here, which then open no file.
+abbrev pub ChangesReplaceLines : Type 0
+ChangesReplaceLines = (world : World) (web change first : List ℕ) (before old after new : List (List ℕ))
+    → lines web ≡ before ++ first ∷ old ++ after → HasOneEntry (lines change) (first ∷ old) new
+    → first ≢ [] → list_any (λ line. bytes_eq line first) before ≡ false
+    → list_any is_include_line (before ++ new ++ after) ≡ false
+    → merge_outcome world web (Some change) ≡ only_lines
+    (placed 0 1 before ++ placed 1 (4 + length old) new ++ placed 0 (2 + length before + length old) after)
 
 -- Without a change file each line is independent: lines merge as a prefix of them does, followed by the rest. A line
 -- that includes no file is emitted or a fault.
