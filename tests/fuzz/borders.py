@@ -2,6 +2,7 @@
 from .running import Web
 
 LINE = 1_048_575
+BYTES = 1_073_741_824
 ALL_TOOLS = ('wmerge', 'wdep', 'ctangle')
 
 
@@ -21,6 +22,21 @@ def long_lines():
         yield web({b'w.w': b'a\n', b'c.ch': x}, (b'w', b'c'))
         yield web({b'w.w': b'a\n', b'c.ch': b'@x\nb\n@y\n' + x + b'\n@z\n'}, (b'w', b'c'))
         yield web({b'w.w': b'a\n', b'c.ch': b'@x\na\n@y\n' + x + b'\n@z\n'}, (b'w', b'c'))
+
+
+def many_bytes():
+    """As many bytes as a run may take, and one more; the last line with a newline and without one.
+
+    A file of blanks is included again and again, so that the merged text is short.
+    """
+    line = b' ' * LINE + b'\n'
+    include = b'@i b\n'
+    count = BYTES // (len(line) + len(include)) - 1
+    left = BYTES - count * (len(line) + len(include))
+    for extra in (0, 1):
+        last = b'\n'.join([b' ' * LINE, b' ' * (left + extra - LINE - 1)])
+        for end in (last, last[:-1] + b'\n'):
+            yield Web({b'w.w': include * count + end, b'b': line}, {'wmerge': [b'w']})
 
 
 def deep_includes():
@@ -64,6 +80,7 @@ def odd_dependencies():
 
 def webs():
     yield from long_lines()
+    yield from many_bytes()
     yield from deep_includes()
     yield from wide_rules()
     yield from odd_dependencies()

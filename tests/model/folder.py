@@ -3,11 +3,15 @@
 A run sees a finite map from names to bytes. A real folder has more names for one file (`./a`), and
 a folder can be opened like a file but not read. Both are modelled here.
 """
+import re
+
 BLANKS = b' \t\r\v\f'
 LINE_LIMIT = 1_048_575
 BYTES_LIMIT = 1_073_741_824
 LINES_LIMIT = 16_777_216
 NAME_LIMIT = 255
+# No machine has this folder, so the model can tell what stands there.
+NOT_THERE = re.compile(rb'/+not-there(/|\Z)')
 
 
 class Stop(Exception):
@@ -40,15 +44,16 @@ class Folder:
         for name in files:
             parts = name.split(b'/')
             self.folders |= {b'/'.join(parts[:n]) for n in range(1, len(parts))}
+        self.pieces = {}            # by path: the pieces of a file, each with its line
         self.bytes = self.lines = 0
         self.used = set()           # paths read or written in this run
 
     def path(self, name):
         """The plain path of a name, or None where a step on the way is not a folder."""
+        if NOT_THERE.match(name) or not name or b'\0' in name:
+            return None
         if name.startswith(b'/'):
             raise Outside(name)
-        if not name or b'\0' in name:
-            return None
         at = []
         for step in name.split(b'/'):
             if b'/'.join(at) not in self.folders:
@@ -79,8 +84,11 @@ class Folder:
         path = self.path(name)
         if path in self.folders:
             raise Stop(b'Read fault on %s' % name)
-        pieces = self.files[path].split(b'\n')
-        for number, piece in enumerate(pieces, 1):
+        if path not in self.pieces:
+            pieces = self.files[path].split(b'\n')
+            self.pieces[path] = [(piece, piece.rstrip(BLANKS)) for piece in pieces]
+        pieces = self.pieces[path]
+        for number, (piece, line) in enumerate(pieces, 1):
             is_last = number == len(pieces)
             if is_last and not piece:
                 return
@@ -90,7 +98,7 @@ class Folder:
                 raise Stop(b'Line too long in %s' % name)
             if self.bytes > BYTES_LIMIT or self.lines > LINES_LIMIT:
                 raise Stop(b'Too much text')
-            yield piece.rstrip(BLANKS)
+            yield line
 
     def write(self, name, text):
         """Writes a draft beside the file, whose name is one byte longer, and renames it.
