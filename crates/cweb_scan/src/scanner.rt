@@ -63,7 +63,7 @@ impl Model for Scanner {
     ghost view = { λ s.
         record {
           context = s.context;
-          contents = s.builder;
+          contents = s.builder.contents;
           faults = s.faults.items;
           sections = s.sections;
           starred = s.starred.items;
@@ -71,7 +71,7 @@ impl Model for Scanner {
           folded = s.folded;
         } };
 
-    ghost invariant = { λ s. IsTied s.directive s.solid s.context s.builder.parts.current };
+    ghost invariant = { λ s. IsTied s.directive s.solid s.context s.builder.contents.parts.current };
 }
 
 fn is_layout(token: Token<'_>) -> bool

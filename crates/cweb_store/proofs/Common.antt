@@ -98,7 +98,7 @@ pub use Rattle.cweb_store.specs.laws.Laws.{NamesAreDistinct, AbbreviationsBeginT
 pub use Rattle.cweb_store.specs.laws.Laws.{JoiningConcatenates, IsLeft, OnlyLayoutIsDropped, left_of_macro}
 pub use Rattle.cweb_store.specs.laws.Laws.{token_of_call, IsLeftOfTokens, TokensAreThosePushed}
 pub use Rattle.cweb_store.specs.laws.Laws.{Distinct}
-pub use Rattle.cweb_store.specs.surface.Tokens.{occurrence_of, too_many, occurrence_text}
+pub use Rattle.cweb_store.specs.surface.Tokens.{occurrence_of, too_many, occurrence_text, BuilderModel}
 pub use Rattle.cweb_store.specs.surface.Tokens.{total, with_word}
 pub use Rattle.cweb_store.specs.surface.Tokens.{all_parts, part_count, token_count, numbers_where, tokens_at}
 pub use Rattle.cweb_store.specs.surface.Tokens.{replacement_of, uninterned_store_bytes, interned_store_bytes}

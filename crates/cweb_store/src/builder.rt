@@ -42,22 +42,25 @@ impl Drop for Builder {
 }
 
 impl Model for Builder {
-    ghost use Rattle.cweb_store.specs.Calls.{Contents};
+    ghost use Rattle.cweb_store.specs.surface.Tokens.{BuilderModel};
 
-    ghost Value = { Contents };
+    ghost Value = { BuilderModel };
 
     ghost use Rattle.std.specs.Prelude.{vec_capacity};
     ghost use Rattle.cweb_store.specs.inner.PartRanges.{parts_in, ArePartRanges};
 
     ghost view = { λ s.
         record {
-          occurrences = s.names;
-          parts = parts_in s.tokens s.ranges.items s.current;
-          replacements = s.replacements;
+          contents = record {
+            occurrences = s.names;
+            parts = parts_in s.tokens.tokens s.ranges.items s.current;
+            replacements = s.replacements;
+          };
+          rooms = record { tokens = s.tokens.rooms; ranges = vec_capacity s.ranges };
         } };
 
     ghost invariant = { λ s.
-        ArePartRanges s.tokens s.ranges.items s.current (vec_capacity s.ranges) };
+        ArePartRanges s.tokens.tokens s.ranges.items s.current (vec_capacity s.ranges) };
 }
 
 impl Builder {
@@ -65,7 +68,7 @@ impl Builder {
 
     /// An empty builder.
     pub fn new(alloc: Global) -> Builder
-        ensures { result ≡ empty }
+        ensures { result.contents ≡ empty }
     {
         Builder {
             alloc,
@@ -84,30 +87,30 @@ impl Builder {
         how: How,
         is_file: bool,
     ) -> Result<NameRef, AllocError>
-        requires { length self.old.occurrences + 1 < too_many }
-        ensures number { IfOk result (λ name. name.0 ≡ length self.old.occurrences) }
-        ensures added { OnOk result
-            (self.new ≡ with_occurrence (occurrence_of name.now how is_file) self.old) }
-        ensures err { OnErr result (self.new ≡ self.old) }
+        requires { length self.old.contents.occurrences + 1 < too_many }
+        ensures number { IfOk result (λ name. name.0 ≡ length self.old.contents.occurrences) }
+        ensures added { OnOk result (self.new.contents
+            ≡ with_occurrence (occurrence_of name.now how is_file) self.old.contents) }
+        ensures err { OnErr result (self.new.contents ≡ self.old.contents) }
     {
         self.names.add(name, how, is_file)
     }
 
     /// Whether one more occurrence, one more part and one more token are within their limits.
     pub fn has_room(&self) -> bool
-        ensures occurrences { IsTrue result → length self.now.occurrences + 1 < too_many }
-        ensures parts { IsTrue result → part_count self.now.parts + 1 < too_many }
-        ensures tokens { IsTrue result → token_count self.now.parts + 1 < too_many }
-        ensures room { length self.now.occurrences + 1 < too_many →
-            part_count self.now.parts + 1 < too_many →
-            token_count self.now.parts + 1 < too_many → IsTrue result }
+        ensures occurrences { IsTrue result → length self.now.contents.occurrences + 1 < too_many }
+        ensures parts { IsTrue result → part_count self.now.contents.parts + 1 < too_many }
+        ensures tokens { IsTrue result → token_count self.now.contents.parts + 1 < too_many }
+        ensures room { length self.now.contents.occurrences + 1 < too_many →
+            part_count self.now.contents.parts + 1 < too_many →
+            token_count self.now.contents.parts + 1 < too_many → IsTrue result }
     {
         self.names.len() < FULL && self.part_count() < FULL && self.tokens.len() < FULL
     }
 
     // The number of parts, the open one included.
     fn part_count(&self) -> usize
-        ensures { result ≡ part_count self.now.parts }
+        ensures { result ≡ part_count self.now.contents.parts }
     {
         match self.current {
             Some(_) => self.ranges.len() + 1,
@@ -117,17 +120,17 @@ impl Builder {
 
     /// Whether a part is open.
     pub fn is_open(&self) -> bool
-        ensures { result ≡ is_some self.now.parts.current }
+        ensures { result ≡ is_some self.now.contents.parts.current }
     {
         self.current.is_some()
     }
 
     /// Begins a part, which is open until it is closed. A refused call changes nothing.
     pub fn open_part(&mut self, kind: PartKind) -> Result<(), AllocError>
-        requires closed { IsNone self.old.parts.current }
-        requires few { part_count self.old.parts + 1 < too_many }
-        ensures ok { OnOk result (self.new ≡ with_open kind self.old) }
-        ensures err { OnErr result (self.new ≡ self.old) }
+        requires closed { IsNone self.old.contents.parts.current }
+        requires few { part_count self.old.contents.parts + 1 < too_many }
+        ensures ok { OnOk result (self.new.contents ≡ with_open kind self.old.contents) }
+        ensures err { OnErr result (self.new.contents ≡ self.old.contents) }
     {
         // Reserves the range, so that `close_part` cannot fail.
         self.ranges.reserve(1)?;
@@ -139,10 +142,11 @@ impl Builder {
     /// Appends a token to the open part. A refused call changes nothing.
     #[inline(always)]
     pub fn push(&mut self, token: Token<'_>) -> Result<(), AllocError>
-        requires open { IsSome self.old.parts.current }
-        requires few { token_count self.old.parts + 1 < too_many }
-        ensures ok { OnOk result (self.new ≡ with_token (token_model token.entry) self.old) }
-        ensures err { OnErr result (self.new ≡ self.old) }
+        requires open { IsSome self.old.contents.parts.current }
+        requires few { token_count self.old.contents.parts + 1 < too_many }
+        ensures ok { OnOk result
+            (self.new.contents ≡ with_token (token_model token.entry) self.old.contents) }
+        ensures err { OnErr result (self.new.contents ≡ self.old.contents) }
     {
         self.tokens.push(token)?;
         Ok(())
@@ -150,8 +154,9 @@ impl Builder {
 
     /// Drops the open part's trailing Blanks, Newlines and Marks, but no macro's first two tokens. Allocates nothing.
     pub fn drop_layout(&mut self)
-        requires { IsSome self.old.parts.current }
-        ensures { self.new ≡ with_dropped self.old }
+        requires { IsSome self.old.contents.parts.current }
+        ensures contents { self.new.contents ≡ with_dropped self.old.contents }
+        ensures rooms { self.new.rooms ≡ self.old.rooms }
     {
         let Some(current) = self.current else {
             return;
@@ -162,8 +167,9 @@ impl Builder {
 
     /// Ends the open part. A macro loses its trailing Newlines, and then a trailing Blank. Allocates nothing.
     pub fn close_part(&mut self)
-        requires { IsSome self.old.parts.current }
-        ensures { self.new ≡ with_closed self.old }
+        requires { IsSome self.old.contents.parts.current }
+        ensures contents { self.new.contents ≡ with_closed self.old.contents }
+        ensures rooms { self.new.rooms ≡ self.old.rooms }
     {
         let Some(current) = self.current else {
             return;
@@ -177,16 +183,16 @@ impl Builder {
     /// Sets the replacement of a byte from 128 on in printed Words (CWEB manual, `@l`). The last call for a byte wins.
     pub fn transliterate(&mut self, byte: u8, new: &[u8]) -> Result<(), AllocError>
         requires { 128 ≤ byte }
-        ensures ok { OnOk result
-            (self.new ≡ with_replacement (replacement_of byte new.now) self.old) }
-        ensures err { OnErr result (self.new ≡ self.old) }
+        ensures ok { OnOk result (self.new.contents
+            ≡ with_replacement (replacement_of byte new.now) self.old.contents) }
+        ensures err { OnErr result (self.new.contents ≡ self.old.contents) }
     {
         self.replacements.add(byte, new)
     }
 
     /// Makes the store. An open part ends here, without the drops of `close_part`. A failed call consumes the builder.
     pub fn finish(self) -> Result<Store, AllocError>
-        ensures { IfOk result (λ store. store ≡ finished self) }
+        ensures { IfOk result (λ store. store ≡ finished self.contents) }
     {
         let Builder {
             alloc,

@@ -34,18 +34,19 @@ pub struct Answered<'a> {
 impl Call<'_> {
     /// Makes the call if the builder's state allows it; else nothing changes. Returns whether it returned `Ok`.
     pub(crate) fn make_in_place(self, builder: &mut Builder) -> bool
-        requires { HoldsAtMost (too_many - 2) builder.old }
-        ensures taken { IsTrue result → AcceptsCall builder.old (call_model self.entry) }
-        ensures made { builder.new
-            ≡ (if result then after_call builder.old (call_model self.entry) else builder.old) }
+        requires { HoldsAtMost (too_many - 2) builder.old.contents }
+        ensures taken { IsTrue result → AcceptsCall builder.old.contents (call_model self.entry) }
+        ensures made { builder.new.contents ≡ (if result
+            then after_call builder.old.contents (call_model self.entry)
+            else builder.old.contents) }
     {
         self.is_in_place(builder) && self.make(builder).is_ok()
     }
 
     // Whether the builder's state allows the call.
     fn is_in_place(self, builder: &Builder) -> bool
-        requires { HoldsAtMost (too_many - 2) builder.now }
-        ensures { IsTrue result ↔ AcceptsCall builder.now (call_model self.entry) }
+        requires { HoldsAtMost (too_many - 2) builder.now.contents }
+        ensures { IsTrue result ↔ AcceptsCall builder.now.contents (call_model self.entry) }
     {
         match self {
             Call::Occurs(..) => true,
@@ -57,9 +58,10 @@ impl Call<'_> {
 
     /// Makes the call. A refused call changes nothing.
     pub fn make(self, builder: &mut Builder) -> Result<(), AllocError>
-        requires { AcceptsCall builder.old (call_model self) }
-        ensures ok { OnOk result (builder.new ≡ after_call builder.old (call_model self.entry)) }
-        ensures err { OnErr result (builder.new ≡ builder.old) }
+        requires { AcceptsCall builder.old.contents (call_model self) }
+        ensures ok { OnOk result
+            (builder.new.contents ≡ after_call builder.old.contents (call_model self.entry)) }
+        ensures err { OnErr result (builder.new.contents ≡ builder.old.contents) }
     {
         match self {
             Call::Occurs(name, how, is_file) => {

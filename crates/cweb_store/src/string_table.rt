@@ -182,6 +182,14 @@ impl StringTable {
     {
         &self.strings
     }
+
+    /// The strings. What finds interned words is freed.
+    pub fn close(self) -> StringList
+        ensures { result ≡ self.strings }
+    {
+        let StringTable { strings: list, .. } = self;
+        list
+    }
 }
 
 // The recorded number of the interned string that is a byte.

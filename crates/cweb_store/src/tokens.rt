@@ -1,7 +1,7 @@
 // Tokens that borrow their bytes.
+pub mod closed;
 pub mod layout;
 pub mod list;
-pub mod queries;
 pub mod records;
 pub mod token_index;
 pub mod token_reader;

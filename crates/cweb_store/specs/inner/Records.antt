@@ -5,7 +5,7 @@ use Rattle.std.specs.List.{list_any}
 use Rattle.cweb_store.specs.Parts.{Place, Token, is_defs}
 use Rattle.cweb_store.specs.inner.StringLists.{string_at, text_bytes}
 use Rattle.cweb_store.specs.inner.PartRanges.{has_string}
-use Rattle.cweb_store.specs.surface.Tokens.{with_word_of, other_bytes, interned_token_bytes, words_of, total}
+use Rattle.cweb_store.specs.surface.Tokens.{with_word_of, other_bytes, interned_token_bytes, words_of, total, TokenRooms}
 use Rattle.cweb_store.specs.inner.StringTables.{StringTableModel, has_word}
 use Rattle.cweb_store.specs.declared.tokens.records.Record.{Record}
 use Rattle.cweb_store.specs.declared.tokens.records.Record.TheVariants.{Word, Number, Literal, Verbatim, Punct, Blank}
@@ -128,3 +128,15 @@ pub record AreIndexedTokens (kept : StringTableModel) (places : List Place) (rec
     (token_index : TokenIndex) : Type 0 where
   pub tokens : AreTokens kept places records
   pub index : IsTokenIndex token_index (tokens_of kept.strings places records)
+
+-- Finished tokens: the strings are exactly those of the records, and the uses and Defs are indexed.
+pub record AreClosedTokens (strings : List (List ℕ)) (places : List Place) (records : List Record)
+    (token_index : TokenIndex) : Type 0 where
+  pub numbers : AreRecords (length strings) 0 records (length places)
+  pub bytes : length (text_bytes strings) ≡ interned_token_bytes (tokens_of strings places records)
+  pub index : IsTokenIndex token_index (tokens_of strings places records)
+
+-- Tokens, and the capacities of their vectors.
+pub record TokenListModel : Type 0 where
+  pub tokens : List Token
+  pub rooms : TokenRooms

@@ -3,7 +3,7 @@ use Rattle.cweb_store.specs.declared.tokens.Token.{Token as BorrowedToken}
 use Rattle.std.specs.Prelude.{◌≡◌, ℕ, ◌+◌, List, [], ◌∷◌, ◌++◌, fold, length, map, flat_map, option_to_list, Bool}
 use Rattle.std.specs.Prelude.{slice_range, if◌then◌else◌, ◌≤◌, All, bytes_eq, ◌==◌, codes}
 use Rattle.cweb_store.specs.Parts.{Token, Word, Number, Literal, Verbatim, Punct, all_tokens, joined_where, Part}
-use Rattle.cweb_store.specs.Calls.{Replacement, Stored, PartsSoFar}
+use Rattle.cweb_store.specs.Calls.{Replacement, Stored, PartsSoFar, Contents}
 use Rattle.cweb_store.specs.declared.parts.PartKind.{PartKind}
 use Rattle.cweb_store.specs.Parts as spec
 use Rattle.cweb_store.specs.declared.tokens.Token.TheVariants as borrowed
@@ -143,6 +143,23 @@ abbrev pub interned_store_bytes : Stored → ℕ
 interned_store_bytes s =
     interned_token_bytes (all_tokens s.parts) +
     (total length (map occurrence_text s.occurrences) + total length (map replacement_bytes s.replacements))
+
+-- The capacities of the vectors of tokens: of their records, of the places of Marks, and of the index of uses and Defs.
+pub record TokenRooms : Type 0 where
+  pub records : ℕ
+  pub places : ℕ
+  pub uses : ℕ
+  pub defs : ℕ
+
+-- The capacities of the vectors of tokens and of the ranges of parts.
+pub record Rooms : Type 0 where
+  pub tokens : TokenRooms
+  pub ranges : ℕ
+
+-- A builder: its contents and its capacities.
+pub record BuilderModel : Type 0 where
+  pub contents : Contents
+  pub rooms : Rooms
 
 -- All parts, the open one included.
 abbrev pub all_parts : PartsSoFar → List Part

@@ -8,6 +8,7 @@ ghost use Rattle.cweb_store.specs.inner.Stored.{AreWithin, flag_of};
 
 use crate::name::{NameId, NameKind};
 use crate::parts::{Open, PartRange};
+use crate::tokens::closed::ClosedTokens;
 use crate::tokens::list::TokenList;
 use std::alloc::{AllocError, Global};
 use std::marker::Model;
@@ -15,7 +16,7 @@ use std::marker::Model;
 /// Finished parts: all tokens in one list, and the range of each part in it.
 #[derive(Drop)]
 pub struct ClosedParts {
-    pub(crate) tokens: TokenList,
+    pub(crate) tokens: ClosedTokens,
     pub(crate) ranges: Vec<PartRange>,
 }
 
@@ -39,9 +40,10 @@ impl ClosedParts {
 
     /// The closed parts, and an open one, which ends here.
     pub fn new(tokens: TokenList, mut ranges: Vec<PartRange>, current: Option<Open>) -> ClosedParts
-        requires { ArePartRanges tokens ranges.items current (vec_capacity ranges) }
-        ensures { result ≡ all_parts (parts_in tokens ranges.items current) }
+        requires { ArePartRanges tokens.tokens ranges.items current (vec_capacity ranges) }
+        ensures { result ≡ all_parts (parts_in tokens.tokens ranges.items current) }
     {
+        let tokens = tokens.close();
         let Some(current) = current else {
             return ClosedParts { tokens, ranges };
         };
@@ -59,7 +61,7 @@ impl ClosedParts {
 
     /// The tokens of all parts.
     #[inline(always)]
-    pub fn tokens(&self) -> &TokenList
+    pub fn tokens(&self) -> &ClosedTokens
         ensures tokens { result.now ≡ all_tokens self.now }
         ensures few { length result.now < too_many }
     {

@@ -19,10 +19,10 @@ pub enum Trailing {
 
 /// The end of an open part without its trailing layout. A macro keeps two tokens: the second may be a needed Blank.
 pub fn end_before_layout(tokens: &TokenList, current: Open) -> usize
-    requires { current.first ≤ length tokens.now }
-    ensures part { open_in (take result tokens.now) current
-        ≡ without_layout (open_in tokens.now current) }
-    ensures cut { CutsLayout tokens.now current.first result }
+    requires { current.first ≤ length tokens.now.tokens }
+    ensures part { open_in (take result tokens.now.tokens) current
+        ≡ without_layout (open_in tokens.now.tokens current) }
+    ensures cut { CutsLayout tokens.now.tokens current.first result }
 {
     let kept = if current.kind.is_macro() { 2 } else { 0 };
     end_before(tokens, current.first as usize + kept, Trailing::Layout)
@@ -30,10 +30,10 @@ pub fn end_before_layout(tokens: &TokenList, current: Open) -> usize
 
 /// The end of an open part when it is closed.
 pub fn end_at_close(tokens: &TokenList, current: Open) -> usize
-    requires { current.first ≤ length tokens.now }
-    ensures part { open_in (take result tokens.now) current
-        ≡ at_close (open_in tokens.now current) }
-    ensures cut { CutsLayout tokens.now current.first result }
+    requires { current.first ≤ length tokens.now.tokens }
+    ensures part { open_in (take result tokens.now.tokens) current
+        ≡ at_close (open_in tokens.now.tokens current) }
+    ensures cut { CutsLayout tokens.now.tokens current.first result }
 {
     if !current.kind.is_macro() {
         return tokens.len();
@@ -45,12 +45,12 @@ pub fn end_at_close(tokens: &TokenList, current: Open) -> usize
 
 // The end of the tokens without the trailing ones that are dropped. Tokens before `from` stay.
 fn end_before(tokens: &TokenList, from: usize, trailing: Trailing) -> usize
-    ensures kept { take result tokens.now
-        ≡ without_last_after from (is_trailing trailing) tokens.now }
-    ensures strings { filter has_string (take result tokens.now)
-        ≡ filter has_string tokens.now }
-    ensures begins { (n : ℕ) → n ≤ from → n ≤ length tokens.now → n ≤ result }
-    ensures within { result ≤ length tokens.now }
+    ensures kept { take result tokens.now.tokens
+        ≡ without_last_after from (is_trailing trailing) tokens.now.tokens }
+    ensures strings { filter has_string (take result tokens.now.tokens)
+        ≡ filter has_string tokens.now.tokens }
+    ensures begins { (n : ℕ) → n ≤ from → n ≤ length tokens.now.tokens → n ≤ result }
+    ensures within { result ≤ length tokens.now.tokens }
 {
     let mut end = tokens.len();
     while from < end && is_trailing(tokens.token(end - 1), trailing) {
@@ -73,11 +73,11 @@ fn is_trailing(token: Token<'_>, trailing: Trailing) -> bool
 // The end of the tokens without a trailing Blank. Tokens before `from` stay.
 fn end_before_blank(tokens: &TokenList, from: usize, end: usize) -> usize
     requires begins { from ≤ end }
-    requires within { end ≤ length tokens.now }
-    ensures kept { drop from (take result tokens.now)
-        ≡ without_blank (drop from (take end tokens.now)) }
-    ensures strings { filter has_string (take result tokens.now)
-        ≡ filter has_string (take end tokens.now) }
+    requires within { end ≤ length tokens.now.tokens }
+    ensures kept { drop from (take result tokens.now.tokens)
+        ≡ without_blank (drop from (take end tokens.now.tokens)) }
+    ensures strings { filter has_string (take result tokens.now.tokens)
+        ≡ filter has_string (take end tokens.now.tokens) }
     ensures begins { from ≤ result }
     ensures within { result ≤ end }
 {

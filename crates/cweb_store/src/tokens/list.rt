@@ -5,6 +5,7 @@ ghost use Rattle.cweb_store.specs.inner.PartRanges.{has_string};
 
 use crate::string_table::StringTable;
 use crate::tokens::Token;
+use crate::tokens::closed::ClosedTokens;
 use crate::tokens::records::{Record, first_place, record_of, token_at};
 use crate::tokens::token_index::TokenIndex;
 use cweb_files::Place;
@@ -13,10 +14,10 @@ use std::marker::Model;
 
 /// Tokens as records, their strings, the places of the Marks, in order, and an index of uses and Defs.
 pub struct TokenList {
-    pub(crate) strings: StringTable,
-    pub(crate) records: Vec<Record>,
+    strings: StringTable,
+    records: Vec<Record>,
     places: Vec<Place>,
-    pub(crate) token_index: TokenIndex,
+    token_index: TokenIndex,
 }
 
 impl Drop for TokenList {
@@ -31,14 +32,21 @@ impl Drop for TokenList {
 }
 
 impl Model for TokenList {
-    ghost use Rattle.std.specs.Prelude.{List};
-    ghost use Rattle.cweb_store.specs.Parts.{Token};
+    ghost use Rattle.std.specs.Prelude.{vec_capacity};
+    ghost use Rattle.cweb_store.specs.inner.Records.{TokenListModel, tokens_of, AreIndexedTokens};
 
-    ghost Value = { List Token };
+    ghost Value = { TokenListModel };
 
-    ghost use Rattle.cweb_store.specs.inner.Records.{tokens_of, AreIndexedTokens};
-
-    ghost view = { λ s. tokens_of s.strings.strings s.places.items s.records.items };
+    ghost view = { λ s.
+        record {
+          tokens = tokens_of s.strings.strings s.places.items s.records.items;
+          rooms = record {
+            records = vec_capacity s.records;
+            places = vec_capacity s.places;
+            uses = vec_capacity s.token_index.uses;
+            defs = vec_capacity s.token_index.defs;
+          };
+        } };
 
     ghost invariant = { λ s.
         AreIndexedTokens s.strings s.places.items s.records.items s.token_index };
@@ -49,7 +57,7 @@ impl TokenList {
 
     /// An empty list.
     pub fn new(alloc: Global) -> TokenList
-        ensures { result ≡ [] }
+        ensures { result.tokens ≡ [] }
     {
         TokenList {
             strings: StringTable::new(alloc),
@@ -61,7 +69,7 @@ impl TokenList {
 
     /// The number of tokens.
     pub fn len(&self) -> usize
-        ensures { result ≡ length self.now }
+        ensures { result ≡ length self.now.tokens }
     {
         self.records.len()
     }
@@ -69,10 +77,10 @@ impl TokenList {
     /// Appends a token. A refused call changes nothing.
     #[inline(always)]
     pub fn push(&mut self, token: Token<'_>) -> Result<(), AllocError>
-        requires few { length self.old + 1 < too_many }
-        ensures ok { OnOk result (self.new ≡ self.old ++ token_model token.entry
+        requires few { length self.old.tokens + 1 < too_many }
+        ensures ok { OnOk result (self.new.tokens ≡ self.old.tokens ++ token_model token.entry
             ∷ []) }
-        ensures err { OnErr result (self.new ≡ self.old) }
+        ensures err { OnErr result (self.new.tokens ≡ self.old.tokens) }
     {
         self.records.reserve(1)?;
         let number = self.records.len() as u32;
@@ -89,8 +97,8 @@ impl TokenList {
 
     /// The token at an index.
     pub fn token(&self, number: usize) -> Token<'_>
-        requires { number < length self.now }
-        ensures { slice_get self.now number ≡ Some (token_model result) }
+        requires { number < length self.now.tokens }
+        ensures { slice_get self.now.tokens number ≡ Some (token_model result) }
     {
         token_at(
             self.strings.strings(),
@@ -102,9 +110,10 @@ impl TokenList {
 
     /// Truncates to the first `count` tokens. The dropped ones have no string. Allocates nothing.
     pub fn truncate(&mut self, count: usize)
-        requires { filter has_string (take count self.old)
-            ≡ filter has_string self.old }
-        ensures { self.new ≡ take count self.old }
+        requires { filter has_string (take count self.old.tokens)
+            ≡ filter has_string self.old.tokens }
+        ensures tokens { self.new.tokens ≡ take count self.old.tokens }
+        ensures rooms { self.new.rooms ≡ self.old.rooms }
     {
         if count >= self.records.len() {
             return;
@@ -113,5 +122,23 @@ impl TokenList {
         self.places.truncate(places);
         self.records.truncate(count);
         self.token_index.truncate(count);
+    }
+
+    /// The finished tokens. What interns words is freed.
+    pub fn close(self) -> ClosedTokens
+        ensures { result ≡ self.tokens }
+    {
+        let TokenList {
+            strings,
+            records,
+            places,
+            token_index,
+        } = self;
+        ClosedTokens {
+            strings: strings.close(),
+            records,
+            places,
+            token_index,
+        }
     }
 }

@@ -1,5 +1,5 @@
 // The indices of tokens that are searched for later.
-ghost use Rattle.std.specs.Prelude.{◌≡◌, ◌≤◌, [], Bool, List, nat_lt, take};
+ghost use Rattle.std.specs.Prelude.{◌≡◌, ◌≤◌, [], Bool, List, nat_lt, take, vec_capacity};
 ghost use Rattle.std.specs.List.{prefix_len};
 ghost use Rattle.std.specs.List.Sorted.{IsNonDecreasing};
 ghost use Rattle.cweb_store.specs.Parts as spec;
@@ -28,8 +28,10 @@ impl TokenIndex {
 
     /// Keeps the entries of the first `count` tokens. Allocates nothing.
     pub fn truncate(&mut self, count: usize)
-        ensures { (tokens : List spec.Token) → IsTokenIndex self.old tokens
+        ensures index { (tokens : List spec.Token) → IsTokenIndex self.old tokens
             → IsTokenIndex self.new (take count tokens) }
+        ensures uses { vec_capacity self.new.uses ≡ vec_capacity self.old.uses }
+        ensures defs { vec_capacity self.new.defs ≡ vec_capacity self.old.defs }
     {
         let uses = count_below(self.uses.as_slice(), count);
         self.uses.truncate(uses);

@@ -13,10 +13,10 @@ pub struct ExampleBuilder {
     builder: Builder,
     calls: u32,
     is_open: bool,
-    ghost few_names: { length builder.occurrences ≤ calls },
-    ghost few_parts: { part_count builder.parts ≤ calls },
-    ghost few_tokens: { token_count builder.parts ≤ calls },
-    ghost open_part: { is_open ≡ is_some builder.parts.current },
+    ghost few_names: { length builder.contents.occurrences ≤ calls },
+    ghost few_parts: { part_count builder.contents.parts ≤ calls },
+    ghost few_tokens: { token_count builder.contents.parts ≤ calls },
+    ghost open_part: { is_open ≡ is_some builder.contents.parts.current },
 }
 
 impl ExampleBuilder {

@@ -9,7 +9,7 @@ loop-call-preserved c =
     let made = c.make_in_place-is_ok.ensures in
     record {
       calls = grind (arith, common_steps);
-      taken = rw c.in_ok-push.ensures.items (taken-one l.answers.items _ l.builder inv.held inv.taken made.taken);
-      held = rw (c.in_ok-push.ensures.items, made.made) (held-one l.answers.items _ l.builder inv.held);
-      few = rw made.made (at-most-one l.call-index l.builder _ _ inv.few made.taken);
+      taken = rw c.in_ok-push.ensures.items (taken-one l.answers.items _ l.builder.contents inv.held inv.taken made.taken);
+      held = rw (c.in_ok-push.ensures.items, made.made) (held-one l.answers.items _ l.builder.contents inv.held);
+      few = rw made.made (at-most-one l.call-index l.builder.contents _ _ inv.few made.taken);
     }

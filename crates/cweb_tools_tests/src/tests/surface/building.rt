@@ -34,7 +34,7 @@ fn push_word(builder: &mut Builder, word: &[u8]) -> Result<(), AllocError> {
 
 // A file name with a part, which uses a name without one, and a macro.
 fn add_file(builder: &mut Builder) -> Result<(), AllocError>
-    requires { builder.old ≡ empty }
+    requires { builder.old.contents ≡ empty }
 {
     let file = builder.occurrence(b"a.h", How::Full, true)?;
     builder.open_part(PartKind::Named(file))?;

@@ -7,7 +7,7 @@ invariant_of-self-2 c =
     let s = c.self.inside in
     let t = token_model c.args.token in
     let part = subst (λ (u : ScanState). in_open_part u.context ≡ true) (sym c.self.view_is) c.requires.part in
-    let tied = tied_emitted s.directive s.solid s.context s.builder.parts.current t c.self.invariant part in
+    let tied = tied_emitted s.directive s.solid s.context s.builder.contents.parts.current t c.self.invariant part in
     let next = c.after_token-next.ensures in
     let solid = c.solid_after-self-inside.ensures ∙ ap (λ (d : Directive). if is_layout t then s.solid else d) next in
     subst (λ (d : Directive). IsTied d c.solid_after-self-inside.result s.context c.push.new.self.parts.current)

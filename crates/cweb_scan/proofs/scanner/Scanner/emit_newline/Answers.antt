@@ -9,5 +9,5 @@ invariant_of-self-2 c =
     let h = subst IsPlainC (sym c.self.view_is) c.requires.in_c in
     subst (λ (v : Contents). IsTied (record { stage = s.directive.stage; last = LineEnd })
     s.solid s.context v.parts.current) (sym c.in_ok-push.ensures.ok) (tied_newline s.directive
-    s.solid s.context s.builder.parts.current c.self.invariant (ap is_c h.in_c) (ap in_open_part h.in_c)
+    s.solid s.context s.builder.contents.parts.current c.self.invariant (ap is_c h.in_c) (ap in_open_part h.in_c)
     (none_open _ h))

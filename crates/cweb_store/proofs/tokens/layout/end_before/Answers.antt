@@ -5,7 +5,7 @@ use Rattle.cweb_store.proofs.tokens.layout.end_before.Goals as goal
 
 pub loop-end-preserved : goal.loop-end-preserved
 loop-end-preserved c =
-    let ts = c.args.tokens.now in
+    let ts = c.args.tokens.now.tokens in
     let from = c.args.from in
     let test = is_trailing c.args.trailing in
     let k = c.loop-end.end - 1 in
@@ -26,7 +26,7 @@ loop-end-preserved c =
 
 pub returns-else-is_trailing-clause-kept : goal.returns-else-is_trailing-clause-kept
 returns-else-is_trailing-clause-kept c =
-    let ts = c.args.tokens.now in
+    let ts = c.args.tokens.now.tokens in
     let from = c.args.from in
     let test = is_trailing c.args.trailing in
     let k = c.loop-end.end - 1 in

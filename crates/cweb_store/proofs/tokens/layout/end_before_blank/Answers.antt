@@ -9,7 +9,7 @@ returns-then-is_blank-clause-kept c = grind (arith, blank-dropped)
 
 pub returns-clause-kept : goal.returns-clause-kept
 returns-clause-kept c =
-    let ts = c.args.tokens.now in
+    let ts = c.args.tokens.now.tokens in
     let from = c.args.from in
     let k = c.args.end - 1 in
     elim c.else-from-end.branch [

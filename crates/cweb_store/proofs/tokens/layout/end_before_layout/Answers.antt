@@ -5,7 +5,7 @@ use Rattle.cweb_store.proofs.tokens.layout.end_before_layout.Goals.{then-is_macr
 
 pub returns-clause-part : goal.returns-clause-part
 returns-clause-part c =
-    let ts = c.args.tokens.now in
+    let ts = c.args.tokens.now.tokens in
     let kind = c.args.current.kind in
     let first = c.args.current.first in
     let kept : c.if-is_macro.kept ≡ protected_count kind = elim c.if-is_macro.branch [

@@ -1,6 +1,6 @@
 use Rattle.cweb_store.proofs.Common.{◌||◌, ◌∙◌, refl, ap, sym, arith, flag_of}
 use Rattle.cweb_store.proofs.UseLemmas.{uses-from-next, uses-step}
-use Rattle.cweb_store.proofs.tokens.list.TokenList.flag_uses.Goals as goal
+use Rattle.cweb_store.proofs.tokens.closed.ClosedTokens.flag_uses.Goals as goal
 
 pub uses-init : goal.uses-init
 uses-init c = record {

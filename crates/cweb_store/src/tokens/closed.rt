@@ -1,5 +1,5 @@
-// What a store asks of its tokens: their bytes, their uses of names, and their size.
-ghost use Rattle.std.specs.Prelude.{◌≡◌, ◌<◌, ◌≤◌, ◌^◌, Some, length, slice_range, flat_map};
+// The tokens of a store: their bytes, their uses of names, and their size.
+ghost use Rattle.std.specs.Prelude.{◌≡◌, ◌<◌, ◌≤◌, ◌^◌, Some, length, slice_get, slice_range, flat_map};
 ghost use Rattle.std.specs.List.{list_any};
 ghost use Rattle.cweb_store.specs.Parts.{is_defs};
 ghost use Rattle.cweb_store.specs.Faults.{is_use};
@@ -8,13 +8,71 @@ ghost use Rattle.cweb_store.specs.surface.Tokens.{token_model, AreInOneList, int
 ghost use Rattle.cweb_store.specs.inner.Records.{IsNextNumber, is_name_use};
 
 use crate::resolution::resolved_at;
-use crate::tokens::list::TokenList;
-use crate::tokens::token_index::next_in_range;
+use crate::strings::StringList;
+use crate::tokens::records::{Record, token_at};
+use crate::tokens::token_index::{TokenIndex, next_in_range};
 use crate::{NameId, NameKind, Part, Token, TokenReader};
+use cweb_files::Place;
+use std::marker::Model;
 
-impl TokenList {
+/// Finished tokens: records, their strings, the places of the Marks, and an index of uses and Defs. What interns words is
+/// freed.
+pub struct ClosedTokens {
+    pub(crate) strings: StringList,
+    pub(crate) records: Vec<Record>,
+    pub(crate) places: Vec<Place>,
+    pub(crate) token_index: TokenIndex,
+}
+
+impl Drop for ClosedTokens {
+    fn drop(self) {
+        let Self {
+            strings: _,
+            records: _,
+            places: _,
+            token_index: _,
+        } = self;
+    }
+}
+
+impl Model for ClosedTokens {
+    ghost use Rattle.std.specs.Prelude.{List};
+    ghost use Rattle.cweb_store.specs.Parts as spec;
+
+    ghost Value = { List spec.Token };
+
+    ghost use Rattle.cweb_store.specs.inner.Records.{tokens_of, AreClosedTokens};
+
+    ghost view = { λ s. tokens_of s.strings s.places.items s.records.items };
+
+    ghost invariant = { λ s.
+        AreClosedTokens s.strings s.places.items s.records.items s.token_index };
+}
+
+impl ClosedTokens {
     ghost use Rattle.std.specs.Prelude.{map};
     ghost use Rattle.cweb_store.specs.inner.DirectBytes.{direct_bytes};
+
+    /// The number of tokens.
+    pub fn len(&self) -> usize
+        ensures { result ≡ length self.now }
+    {
+        self.records.len()
+    }
+
+    /// The token at an index.
+    #[inline(always)]
+    pub fn token(&self, number: usize) -> Token<'_>
+        requires { number < length self.now }
+        ensures { slice_get self.now number ≡ Some (token_model result) }
+    {
+        token_at(
+            &self.strings,
+            self.places.as_slice(),
+            self.records.as_slice(),
+            number,
+        )
+    }
 
     /// A reader of the tokens' bytes.
     #[inline(always)]
@@ -23,7 +81,7 @@ impl TokenList {
     {
         TokenReader {
             records: self.records.as_slice(),
-            strings: self.strings.strings().slices(),
+            strings: self.strings.slices(),
         }
     }
 
@@ -75,7 +133,7 @@ impl TokenList {
         ensures once { result ≡ interned_token_bytes self.now }
         ensures few { result < 2 ^ 63 }
     {
-        self.strings.strings().text_bytes()
+        self.strings.text_bytes()
     }
 }
 

@@ -1,5 +1,5 @@
 use Rattle.cweb_store.proofs.Common.{◌≡◌, ◌≤◌, ◌-◌, ◌||◌, length, list_any, slice_range, is_use, flag_of, NameId}
-use Rattle.cweb_store.proofs.tokens.list.TokenList.flag_uses.Given as goal
+use Rattle.cweb_store.proofs.tokens.closed.ClosedTokens.flag_uses.Given as goal
 
 abbrev pub invariant-uses : goal.invariant-uses
 invariant-uses l = record {
