@@ -111,7 +111,7 @@ fn refill<S: Shelf>(shelf: &mut S, source: &mut Source<S::R>) -> Result<(), Line
     if source.start < source.end {
         return Ok(());
     }
-    source.lines_end = 0;
+    source.clear();
     match shelf.read(&mut source.reader, &mut source.buffer) {
         Ok(n) => {
             source.start = 0;

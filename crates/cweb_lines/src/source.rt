@@ -5,7 +5,10 @@ ghost use Rattle.cweb_lines.specs.declared.source.LineFault.TheVariants.{Memory}
 
 use std::alloc::{AllocError, Global};
 
-/// The size of a buffer, and so of a read, in bytes.
+/// The size of the buffer of a source that was just opened, and so of its first read, in bytes.
+const FIRST_SIZE: usize = 4096;
+
+/// The size of the buffer of a longer file, and so of its reads.
 const BUFFER_SIZE: usize = 65536;
 
 /// Why a line could not be taken.
@@ -57,12 +60,12 @@ impl<R: Drop> Source<R> {
     ghost use Rattle.cweb_lines.specs.surface.OpenSources.{buffered};
     ghost use Rattle.std.specs.Prelude.{[]};
 
-    /// Nothing is read yet. It allocates a buffer.
+    /// Nothing is read yet. It allocates a small buffer, since most included files are short.
     pub fn new(alloc: Global, reader: R) -> Result<Self, AllocError>
         ensures reader { IfOk result (λ source. source.reader.value ≡ reader) }
         ensures pending { IfOk result (λ source. buffered source ≡ []) }
     {
-        let buffer = vec![in alloc; 0; BUFFER_SIZE]?;
+        let buffer = vec![in alloc; 0; FIRST_SIZE]?;
         Ok(Source {
             reader: Box::new(alloc, reader)?,
             buffer,
@@ -70,5 +73,21 @@ impl<R: Drop> Source<R> {
             end: 0,
             lines_end: 0,
         })
+    }
+    /// Forgets the bytes in the buffer, which were all taken. If the last read filled a small buffer, it becomes larger,
+    /// unless memory is refused.
+    pub fn clear(&mut self)
+        requires taken { self.old.start ≡ self.old.end }
+        ensures reader { self.new.reader ≡ self.old.reader }
+        ensures empty { self.new.start ≡ self.new.end }
+        ensures no_line { self.new.lines_end ≡ 0 }
+    {
+        self.lines_end = 0;
+        if self.end == self.buffer.len() && self.end < BUFFER_SIZE {
+            let larger = vec![in *self.buffer.allocator(); 0; BUFFER_SIZE];
+            if let Ok(buffer) = larger {
+                self.buffer = buffer;
+            }
+        }
     }
 }
