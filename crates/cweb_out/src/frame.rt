@@ -25,7 +25,7 @@ pub struct Frame<'a> {
 
 impl<'a> Frame<'a> {
     /// The whole list of an output. `None` is the main file.
-    pub fn of_root(store: &'a Store, root: Option<NameId>) -> Frame<'a>
+    pub(crate) fn of_root(store: &'a Store, root: Option<NameId>) -> Frame<'a>
         ensures within { FrameIsWithin store.now result }
         ensures list { suffix store.now result ≡ root_list store.now root }
         ensures owner { result.owner ≡ root }
@@ -48,7 +48,7 @@ impl<'a> Frame<'a> {
     }
 
     /// Takes the next unexpanded token. After the first `None` it stays `None`.
-    pub fn take(&mut self, store: &'a Store) -> Option<Token<'a>>
+    pub(crate) fn take(&mut self, store: &'a Store) -> Option<Token<'a>>
         requires { FrameIsWithin store.now self.old }
         ensures keeps { KeepsFrame store.now self.old self.new }
         ensures some { IfSome result

@@ -26,6 +26,7 @@ pub mod laws;
 pub use buffer::OutBuffer;
 pub use cweb_files::{BinFault, BinFile, Bins, MemoryBins};
 pub use expander::Expander;
+pub use frame::Frame;
 pub use outputs::fault::PlanFault;
 pub use outputs::planned::Plan;
 pub use outputs::planning::plan;

@@ -3,6 +3,7 @@ mod bins;
 mod buffering;
 mod cases;
 mod failing;
+mod frames;
 mod large;
 mod long_webs;
 mod outputs;

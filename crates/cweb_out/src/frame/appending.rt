@@ -10,7 +10,7 @@ use cweb_store::{NameRef, Store, Token};
 
 impl<'a> Frame<'a> {
     /// Prints tokens up to one that isn't direct or doesn't fit. Returns whether the list has ended.
-    pub fn append(
+    pub(crate) fn append(
         &mut self,
         store: &'a Store,
         printer: &mut Printer<'_>,
@@ -52,7 +52,7 @@ impl<'a> Frame<'a> {
     }
 
     /// Takes the next token of the part if it is a use of a name, else nothing.
-    pub fn take_name(&mut self, store: &Store) -> Option<NameRef>
+    pub(crate) fn take_name(&mut self, store: &Store) -> Option<NameRef>
         requires { FrameIsWithin store.now self.old }
         ensures keeps { KeepsFrame store.now self.old self.new }
         ensures some { IfSome result
