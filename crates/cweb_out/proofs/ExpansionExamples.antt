@@ -25,6 +25,8 @@ with_macros = record plain {
 record Computed : Type 0 where
   each_use_is_replaced : expand twice 4 (program twice)
       ≡ semicolon ∷ semicolon ∷ semicolon ∷ semicolon ∷ semicolon ∷ semicolon ∷ semicolon ∷ semicolon ∷ []
+  a_greater_depth_changes_nothing : expand twice 7 (program twice) ≡ expand twice 3 (program twice)
+  a_depth_below_the_rank_drops_tokens : expand twice 2 (program twice) ≡ []
   a_section_comment_stays_after_a_join : print plain (Punct (codes "/") ∷ Join ∷ Head 2 ∷ at 3 ∷ Word (codes "b") ∷ [])
       ≡ codes "/ /*2:*/b"
   section_comments_after_a_join : section_comments plain true (Newline ∷ Head 2 ∷ at 3 ∷ Join ∷ Tail 2 ∷ at 2 ∷ [])

@@ -1,8 +1,10 @@
 -- The laws of expansion and printing.
-use Rattle.cweb_out.proofs.Common.{◌≡◌, ◌+◌, ◌-◌, ◌==◌, ℕ, zero, suc, Bool, true, false, cond, List, [], ◌∷◌, ◌++◌, refl, sym, ◌∙◌, ap, arith, append_assoc, append-nil, Option, None, Some, codes, fold, flat_map, list_all, flat_map-append, NameId, Token, Newline, Defs, Name, Stored, joined, resolved_use, expanded_name, put, option_map_or, last_is, sep, Setting, file, file_token_bytes, without_joined_layout, last_token, left_after, macro_line, macro_lines, mark_line, print, print_after, starts_line, stays_joined, Edge, separator, ReplacesUses, is_no_use, print_following, is_whole_lines}
+use Rattle.cweb_out.proofs.Common.{◌≡◌, ◌≤◌, ◌+◌, ◌-◌, ◌==◌, ℕ, zero, suc, Bool, true, false, cond, List, [], ◌∷◌, ◌++◌, refl, sym, ◌∙◌, ap, arith, append_assoc, append-nil, Option, None, Some, codes, fold, flat_map, list_all, flat_map-append, NameId, Token, Newline, Defs, Name, Stored, Frame, AreOwned, IsFrameStack, rank, names, joined, resolved_use, uses, use_of, ends_below, expand, expanded_name, put, option_to_list, and_parts, option_map_or, last_is, sep, Setting, file, file_token_bytes, without_joined_layout, last_token, left_after, macro_line, macro_lines, mark_line, print, print_after, starts_line, stays_joined, Edge, separator, ReplacesUses, is_no_use, print_following, is_whole_lines}
 use Rattle.cweb_store.specs.Parts.{Mark}
 use Rattle.cweb_store.specs.declared.edges.Edge.TheVariants as edge_kind
-use Rattle.cweb_out.proofs.Ranks.{all-append}
+use Rattle.cweb_out.specs.laws.Laws.{IsRanked, RanksDecrease}
+use Rattle.cweb_out.proofs.Owners.{top-lower}
+use Rattle.cweb_out.proofs.Ranks.{all-append, all-parts}
 use Rattle.cweb_out.proofs.Steps.{sep_by_edge}
 
 text_for-text : (f : NameId → List Token) (o : Option NameId)
@@ -33,6 +35,53 @@ replaces_uses {w} {k} = record {
   no_use = λ ts. puts-text w (expanded_name w k) ts (name-text w k);
   kept = grind (arith, flat_map-append, put-same);
   replaced = grind (arith, flat_map-append);
+}
+
+-- Names that pass a test have equal lists.
+abbrev AreSame : (NameId → Bool) → (NameId → List Token) → (NameId → List Token) → Type 0
+AreSame p f g = (n : NameId) → p n ≡ true → f n ≡ g n
+
+option-same : (p : NameId → Bool) (f g : NameId → List Token) (o : Option NameId) → AreSame p f g
+    → list_all p (option_to_list o) ≡ true → option_map_or f o [] ≡ option_map_or g o []
+option-same p f g None same h = refl
+option-same p f g (Some n) same h = same n (and_parts (p n) true h).0
+
+put-used : (w : Stored) (p : NameId → Bool) (f g : NameId → List Token) (t : Token) → AreSame p f g
+    → list_all p (use_of w t) ≡ true → put w f t ≡ put w g t
+put-used w p f g (Name r) same h = option-same p f g (resolved_use w r) same h
+put-used w p f g t same h = refl
+
+puts-used : (w : Stored) (p : NameId → Bool) (f g : NameId → List Token) (ts : List Token) → AreSame p f g
+    → list_all p (uses w ts) ≡ true → flat_map (put w f) ts ≡ flat_map (put w g) ts
+puts-used w p f g [] same h = refl
+puts-used w p f g (t ∷ ts) same h =
+    let parts = all-parts p (use_of w t) (uses w ts) h in
+    let first = put-used w p f g t same parts.0 in
+    let rest = puts-used w p f g ts same parts.1 in
+    rw (first, rest) refl
+
+deeper : (w : Stored) (k depth : ℕ) (n : NameId) → k ≤ depth → ends_below w k n ≡ true
+    → expanded_name w depth n ≡ expanded_name w k n
+deeper w zero depth n le h = cc
+deeper w (suc k) zero n le h = absurd (omega (arith, le))
+deeper w (suc k) (suc depth) n le h = puts-used w (ends_below w k) (expanded_name w depth) (expanded_name w k)
+    (joined w n) (λ m e. deeper w k depth m (omega (arith, le)) e) h
+
+pub depth_changes_nothing : (w : Stored) (k depth : ℕ) (ts : List Token) → k ≤ depth
+    → list_all (ends_below w k) (uses w ts) ≡ true → expand w depth ts ≡ expand w k ts
+depth_changes_nothing w k depth ts le h =
+    puts-used w (ends_below w k) (expanded_name w depth) (expanded_name w k) ts (λ n e. deeper w k depth n le e) h
+
+ranks-decrease : (w : Stored) (above : ℕ) (fs : List Frame) → AreOwned w above fs → RanksDecrease w fs
+ranks-decrease w above [] h = tt
+ranks-decrease w above (f ∷ []) h = tt
+ranks-decrease w above (f ∷ g ∷ fs) h = (h.2.1, ranks-decrease w (rank w f.owner) (g ∷ fs) h.2)
+
+pub frame_stacks_are_ranked : (w : Stored) (fs : List Frame) (capacity : ℕ) → IsFrameStack w fs capacity
+    → IsRanked w fs
+frame_stacks_are_ranked w fs capacity s = record {
+  ranked = ranks-decrease w (names w + 1) fs s.owned;
+  depth = omega (arith, top-lower w (names w + 1) fs s.owned);
 }
 
 kept-append : (joined : Bool) (xs ys : List Token)

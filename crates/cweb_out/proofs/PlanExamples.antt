@@ -35,7 +35,16 @@ twice = record {
   replacements = [];
 }
 
+-- Two files, each of which uses itself.
+abbrev files : Stored
+files = record {
+  occurrences = record (full (codes "f.c")) { is_file = true } ∷ record (full (codes "g.c")) { is_file = true } ∷ [];
+  parts = part (of 0) (use_ 0 ∷ []) ∷ part (of 1) (use_ 1 ∷ []) ∷ [];
+  replacements = [];
+}
+
 record Computed : Type 0 where
+  the_first_of_two_cycles_is_reported : planned_ending files (codes "a.c") ≡ Err (cycle (id 0 ∷ id 0 ∷ []))
   two_names_that_use_each_other : cycle_from two (first_endless two (program two)) ≡ id 0 ∷ id 1 ∷ id 0 ∷ []
   from_the_second : cycle_from two (Some (id 1)) ≡ id 1 ∷ id 0 ∷ id 1 ∷ []
   the_plan_is_refused : planned_ending two (codes "a.c") ≡ Err (cycle (id 0 ∷ id 1 ∷ id 0 ∷ []))

@@ -57,7 +57,7 @@ pub goes-on : {w : Stored} {marks more : List Mark} (path : List Waiting) {mid a
 goes-on path f g t c e i m p x = grind (arith, chain-pop, looked-more, chain-push, begins-more, begins-push)
 
 -- The list of an output.
-uses-defs : (w : Stored) (b : Bool) (ts : List Token) → uses w (defs_first b ++ ts) ≡ uses w ts
+pub uses-defs : (w : Stored) (b : Bool) (ts : List Token) → uses w (defs_first b ++ ts) ≡ uses w ts
 uses-defs w true ts = refl
 uses-defs w false ts = refl
 

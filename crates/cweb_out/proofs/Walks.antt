@@ -63,7 +63,7 @@ path-cycle {w} (f ∷ path) {start} again t c a b =
 abbrev pub from_first : NameId → List NameId → List NameId
 from_first n ns = drop (position_or_len (is_id n) ns) ns
 
-from-cons : (n m : NameId) (ns : List NameId) → from_first n (m ∷ ns) ≡ cond (is_id n m) (m ∷ ns) (from_first n ns)
+pub from-cons : (n m : NameId) (ns : List NameId) → from_first n (m ∷ ns) ≡ cond (is_id n m) (m ∷ ns) (from_first n ns)
 from-cons n m ns = grind (arith, is_id n m)
 
 from-push : (n : NameId) (ns : List NameId) (m : NameId)

@@ -1,12 +1,16 @@
--- Laws of expansion and printing for any web.
-use Rattle.std.specs.Prelude.{◌≡◌, ◌<◌, ◌↔◌, ◌==◌, ℕ, suc, Bool, true, false, List, [], ◌∷◌, ◌++◌, Some, fold, codes}
-use Rattle.std.specs.Prelude.{if◌then◌else◌}
-use Rattle.std.specs.List.{list_all}
+-- Laws of expansion, cycles and printing for any web.
+use Rattle.std.specs.Prelude.{◌≡◌, ◌<◌, ◌≤◌, ◌+◌, ◌↔◌, ◌==◌, ℕ, suc, Bool, true, false, List, [], ◌∷◌, ◌++◌, Some, fold}
+use Rattle.std.specs.Prelude.{if◌then◌else◌, codes, Option, Err, length}
+use Rattle.std.specs.List.{list_all, list_any}
+use Rattle.cweb_store.specs.Names.{is_id}
 use Rattle.cweb_store.specs.declared.name.NameId.{NameId}
 use Rattle.cweb_store.specs.Parts.{Token, Name, Join, Head, Tail}
 use Rattle.cweb_store.specs.declared.name.NameRef.{NameRef}
 use Rattle.cweb_store.specs.Calls.{Stored}
-use Rattle.cweb_out.specs.Expansion.{names, joined, resolved_use, ends_below, has_rank, expand}
+use Rattle.cweb_out.specs.declared.frame.Frame.{Frame}
+use Rattle.cweb_out.specs.Expansion.{names, joined, resolved_use, uses, ends_below, has_rank, list_ends, expand}
+use Rattle.cweb_out.specs.Outputs.{outputs, root_list, planned, cycle}
+use Rattle.cweb_out.specs.surface.FrameStacks.{IsFrameStack, rank}
 use Rattle.cweb_rules.specs.Edges.{last_is}
 use Rattle.cweb_out.specs.Printing.{Setting, file, file_token_bytes, without_joined_layout, left_after, print}
 use Rattle.cweb_out.specs.Printing.{print_after, stays_joined, plain_bytes}
@@ -33,6 +37,47 @@ ExpansionReplacesUsesAlone = (w : Stored) (k : ℕ) → ReplacesUses w k
 abbrev pub RanksAreBelowTheNames : Type 0
 RanksAreBelowTheNames = (w : Stored) (n : NameId) → n.0 < names w
     → ((has_rank w n ≡ true) ↔ ((k : ℕ) × (ends_below w k n ≡ true)))
+
+-- If each name that a list uses has a rank below k, its expansions at all depths from k on are equal.
+abbrev pub DepthAboveTheRankChangesNothing : Type 0
+DepthAboveTheRankChangesNothing = (w : Stored) (k depth : ℕ) (ts : List Token) → k ≤ depth
+    → list_all (ends_below w k) (uses w ts) ≡ true → expand w depth ts ≡ expand w k ts
+
+-- The ranks of the owners decrease strictly from each frame to the one above it.
+abbrev pub RanksDecrease : Stored → List Frame → Type 0
+RanksDecrease w [] = Unit {0}
+RanksDecrease w (f ∷ []) = Unit {0}
+RanksDecrease w (f ∷ g ∷ fs) = (rank w g.owner < rank w f.owner) × RanksDecrease w (g ∷ fs)
+
+-- A stack whose ranks decrease. It has at most one frame more than there are names.
+pub record IsRanked (w : Stored) (fs : List Frame) : Type 0 where
+  pub ranked : RanksDecrease w fs
+  pub depth : length fs ≤ names w + 1
+
+abbrev pub FrameStacksAreRanked : Type 0
+FrameStacksAreRanked = (w : Stored) (fs : List Frame) (capacity : ℕ) → IsFrameStack w fs capacity → IsRanked w fs
+
+-- The tokens use the first of the names, and the list of each name uses the next one.
+abbrev pub LeadsThrough : Stored → List Token → List NameId → Type 0
+LeadsThrough w ts [] = Unit {0}
+LeadsThrough w ts (n ∷ ns) = (list_any (is_id n) (uses w ts) ≡ true) × LeadsThrough w (joined w n) ns
+
+-- A cycle of names that an output reaches. The expansion of each earlier output ends.
+pub record IsFirstCycle (w : Stored) (ns : List NameId) : Type 0 where
+  pub earlier : List (Option NameId)
+  pub output : Option NameId
+  pub later : List (Option NameId)
+  pub all : outputs w ≡ earlier ++ output ∷ later
+  pub ending : list_all (λ o. list_ends w (root_list w o)) earlier ≡ true
+  pub way : List NameId
+  pub name : NameId
+  pub between : List NameId
+  pub closed : ns ≡ name ∷ between ++ name ∷ []
+  pub leads : LeadsThrough w (root_list w output) (way ++ ns)
+
+abbrev pub RefusedCyclesAreCycles : Type 0
+RefusedCyclesAreCycles = (w : Stored) (main : List ℕ) (ns : List NameId) → planned w main ≡ Err (cycle ns)
+    → IsFirstCycle w ns
 
 -- Whether a join is open after a list.
 abbrev pub is_joined : List Token → Bool
