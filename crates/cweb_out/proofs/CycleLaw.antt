@@ -253,6 +253,13 @@ outputs-are-roots w =
     All-cons (IsRoot w) None (map Some (file_outputs w)) tt (All-map (IsRoot w) Some (file_outputs w)
     (All-filter test (λ (n : NameId). n.0 < names w) (spec.files w.occurrences) (files-within w.occurrences)))
 
+root-in : (w : Stored) (before : List (Option NameId)) (o : Option NameId) (after : List (Option NameId))
+    → outputs w ≡ before ++ o ∷ after → IsRoot w o
+root-in w before o after whole =
+    let all = subst (All (IsRoot w)) whole (outputs-are-roots w) in
+    let lt : length before < length (before ++ o ∷ after) = omega (arith, length-append before (o ∷ after)) in
+    subst (IsRoot w) (get_or-append_seam before o after None) (all (length before) None lt)
+
 abbrev outcome : {A : Type 0} → Option A → (A → Refusal) → Result Planned Refusal → Result Planned Refusal
 outcome found why r = elim found [ Some x ↦ Err (why x) | None ↦ r ]
 
@@ -277,12 +284,9 @@ refused_cycles_are_cycles w main ns h =
     let end = ended w (record { outputs = map (output_of w main) (outputs w); no_text = has_no_program w }) ns
     (find (λ o. not (list_ends w (root_list w o))) (outputs w)) ending in
     let s = split (λ o. list_ends w (root_list w o)) (outputs w) end.1 in
-    let root : IsRoot w end.0 = subst (IsRoot w) {x = get_or (s.before ++ end.0 ∷ s.after) (length s.before) None} (get_or-append_seam s.before end.0 s.after None)
-    (subst (All (IsRoot w)) s.whole (outputs-are-roots w) (length s.before) None
-    (omega (arith, length-append s.before (end.0 ∷ s.after)))) in
     let found : List NameId = cycle_from w (start_of w end.0) in
     let r : Reaches w (root_list w end.0) ns =
-    subst (Reaches w (root_list w end.0)) {x = found} end.2 (reaches end.0 root s.fails) in
+    subst (Reaches w (root_list w end.0)) {x = found} end.2 (reaches end.0 (root-in w s.before end.0 s.after s.whole) s.fails) in
     record {
       earlier = s.before;
       output = end.0;

@@ -1,8 +1,8 @@
 -- The laws of expansion and printing.
-use Rattle.cweb_out.proofs.Common.{◌≡◌, ◌≤◌, ◌+◌, ◌-◌, ◌==◌, ℕ, zero, suc, Bool, true, false, cond, List, [], ◌∷◌, ◌++◌, refl, sym, ◌∙◌, ap, arith, append_assoc, append-nil, Option, None, Some, codes, fold, flat_map, list_all, flat_map-append, NameId, Token, Newline, Defs, Name, Stored, Frame, AreOwned, IsFrameStack, rank, names, joined, resolved_use, uses, use_of, ends_below, expand, expanded_name, put, option_to_list, and_parts, option_map_or, last_is, sep, Setting, file, file_token_bytes, without_joined_layout, last_token, left_after, macro_line, macro_lines, mark_line, print, print_after, starts_line, stays_joined, Edge, separator, ReplacesUses, is_no_use, print_following, is_whole_lines}
+use Rattle.cweb_out.proofs.Common.{◌≡◌, ◌≤◌, ◌+◌, ◌-◌, ◌==◌, ℕ, zero, suc, Bool, true, false, cond, ◌&&◌, is_layout, List, [], ◌∷◌, ◌++◌, refl, sym, ◌∙◌, ap, arith, append_assoc, append-nil, Option, None, Some, codes, fold, flat_map, list_all, flat_map-append, NameId, Token, Newline, Defs, Name, Stored, Frame, AreOwned, IsFrameStack, rank, names, joined, resolved_use, uses, use_of, ends_below, expand, expanded_name, put, option_to_list, and_parts, option_map_or, last_is, sep, Setting, file, file_token_bytes, without_joined_layout, last_token, left_after, macro_line, macro_lines, mark_line, print, print_after, starts_line, stays_joined, Edge, separator, ReplacesUses, is_no_use, print_following, is_whole_lines}
 use Rattle.cweb_store.specs.Parts.{Mark}
 use Rattle.cweb_store.specs.declared.edges.Edge.TheVariants as edge_kind
-use Rattle.cweb_out.specs.laws.Laws.{IsRanked, RanksDecrease}
+use Rattle.cweb_out.specs.laws.Laws.{IsRanked, RanksDecrease, is_joined}
 use Rattle.cweb_out.proofs.Owners.{top-lower}
 use Rattle.cweb_out.proofs.Ranks.{all-append, all-parts}
 use Rattle.cweb_out.proofs.Steps.{sep_by_edge}
@@ -98,6 +98,41 @@ print_after-append text l (x ∷ xs) ys = grind (arith, append_assoc, print_afte
 pub print_goes_on : (s : Setting) (before ts : List Token)
     → print s (before ++ ts) ≡ print s before ++ print_following s before ts
 print_goes_on s before ts = grind (arith, kept-append, print_after-append)
+
+last-push : (l : Option Token) (ts : List Token) (t : Token) → last_token l (ts ++ t ∷ []) ≡ Some t
+last-push l [] t = refl
+last-push l (x ∷ ts) t = last-push (Some x) ts t
+
+joined-push : (joined : Bool) (ts : List Token) (t : Token)
+    → fold stays_joined joined (ts ++ t ∷ []) ≡ stays_joined (fold stays_joined joined ts) t
+joined-push joined [] t = refl
+joined-push joined (x ∷ ts) t = joined-push (stays_joined joined x) ts t
+
+kept-first : (joined : Bool) (t : Token) (ts : List Token) → (joined && is_layout t) ≡ false
+    → without_joined_layout joined (t ∷ ts) ≡ t ∷ without_joined_layout (stays_joined joined t) ts
+kept-first joined t ts h = let rest = without_joined_layout (stays_joined joined t) ts in
+    ap (λ b. cond b rest (t ∷ rest)) h
+
+left-push : (ts : List Token) (t : Token) → (is_joined ts && is_layout t) ≡ false → left_after (ts ++ t ∷ []) ≡ Some t
+left-push ts t h = ap (last_token None) (kept-append false ts (t ∷ [])
+    ∙ ap (λ us. without_joined_layout false ts ++ us) (kept-first (is_joined ts) t [] h))
+    ∙ last-push None (without_joined_layout false ts) t
+
+pub each_token_is_printed : (s : Setting) (before after : List Token) (t : Token)
+    → (is_joined before && is_layout t) ≡ false
+    → print s (before ++ t ∷ after) ≡ print s before ++ ((sep (left_after before) t
+    ++ file_token_bytes s (left_after before) t) ++ print_following s (before ++ t ∷ []) after)
+each_token_is_printed s before after t h =
+    let text = file_token_bytes s in
+    let first = ap (print_after text (left_after before)) (kept-first (is_joined before) t after h) in
+    let rest : print_after text (left_after (before ++ t ∷ []))
+    (without_joined_layout (is_joined (before ++ t ∷ [])) after)
+    ≡ print_after text (Some t) (without_joined_layout (stays_joined (is_joined before) t) after) =
+    ap (λ (l : Option Token). print_after text l (without_joined_layout (is_joined (before ++ t ∷ [])) after))
+    (left-push before t h)
+    ∙ ap (λ (j : Bool). print_after text (Some t) (without_joined_layout j after)) (joined-push false before t) in
+    print_goes_on s before (t ∷ after) ∙ ap (λ (bytes : List ℕ). print s before ++ bytes) (first
+    ∙ ap (λ (bytes : List ℕ). (sep (left_after before) t ++ text (left_after before) t) ++ bytes) (sym rest))
 
 abbrev is_ended : List ℕ → Bool
 is_ended bytes = last_is (λ x. x == 10) bytes

@@ -1,7 +1,7 @@
 //! Laws of expansion, cycles and printing for any web. Each function exists for its contract and does nothing.
 
 ghost use Rattle.cweb_out.specs.laws.Laws.{DepthAboveTheRankChangesNothing, ExpansionReplacesUsesAlone};
-ghost use Rattle.cweb_out.specs.laws.Laws.{FilesHaveWholeLines, FrameStacksAreRanked, PrintGoesOn};
+ghost use Rattle.cweb_out.specs.laws.Laws.{EachTokenIsPrinted, FilesHaveWholeLines, FrameStacksAreRanked, PrintGoesOn};
 ghost use Rattle.cweb_out.specs.laws.Laws.{OnlySectionCommentsComeBetweenJoinedTokens, RanksAreBelowTheNames};
 ghost use Rattle.cweb_out.specs.laws.Laws.{RefusedCyclesAreCycles};
 
@@ -20,10 +20,11 @@ pub fn cycles()
     ensures { RefusedCyclesAreCycles }
 {}
 
-/// A concatenation prints the first list, then the second one. Between a Join and the next token that is no layout,
+/// A concatenation prints the first list, then the second one. A token is printed once, where it is. Between a Join and the next token that is no layout,
 /// section comment or Join, only section comments are printed. A file is empty or ends in a newline.
 pub fn printing()
     ensures goes_on { PrintGoesOn }
+    ensures each_token { EachTokenIsPrinted }
     ensures section_comments_between_joined { OnlySectionCommentsComeBetweenJoinedTokens }
     ensures whole_lines { FilesHaveWholeLines }
 {}

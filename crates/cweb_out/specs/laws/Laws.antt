@@ -1,10 +1,11 @@
 -- Laws of expansion, cycles and printing for any web.
 use Rattle.std.specs.Prelude.{◌≡◌, ◌<◌, ◌≤◌, ◌+◌, ◌↔◌, ◌==◌, ℕ, suc, Bool, true, false, List, [], ◌∷◌, ◌++◌, Some, fold}
-use Rattle.std.specs.Prelude.{if◌then◌else◌, codes, Option, Err, length}
+use Rattle.std.specs.Prelude.{if◌then◌else◌, codes, Option, Err, length, ◌&&◌}
 use Rattle.std.specs.List.{list_all, list_any}
 use Rattle.cweb_store.specs.Names.{is_id}
 use Rattle.cweb_store.specs.declared.name.NameId.{NameId}
-use Rattle.cweb_store.specs.Parts.{Token, Name, Join, Head, Tail}
+use Rattle.cweb_store.specs.Parts.{Token, Name, Join, Head, Tail, is_layout}
+use Rattle.cweb_out.specs.Spacing.{sep}
 use Rattle.cweb_store.specs.declared.name.NameRef.{NameRef}
 use Rattle.cweb_store.specs.Calls.{Stored}
 use Rattle.cweb_out.specs.declared.frame.Frame.{Frame}
@@ -92,6 +93,12 @@ print_following s before ts =
 abbrev pub PrintGoesOn : Type 0
 PrintGoesOn = (s : Setting) (before ts : List Token)
     → print s (before ++ ts) ≡ print s before ++ print_following s before ts
+
+-- A token that is no layout after a Join is printed in its place: the separator, its bytes, and then what follows.
+abbrev pub EachTokenIsPrinted : Type 0
+EachTokenIsPrinted = (s : Setting) (before after : List Token) (t : Token) → (is_joined before && is_layout t) ≡ false
+    → print s (before ++ t ∷ after) ≡ print s before ++ ((sep (left_after before) t
+    ++ file_token_bytes s (left_after before) t) ++ print_following s (before ++ t ∷ []) after)
 
 -- Empty, or the last byte is a newline.
 abbrev pub is_whole_lines : List ℕ → Bool
