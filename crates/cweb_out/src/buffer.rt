@@ -1,14 +1,15 @@
 // The output buffer in front of a sink.
 ghost use Rattle.std.specs.Prelude.{◌≡◌, ◌≤◌, ◌<◌, ◌+◌, ◌^◌, ◌++◌, [], length, take, drop, IfOk};
-ghost use Rattle.std.specs.Prelude.{IfErr, IsOk, OnErr, OnOk};
-ghost use Rattle.cweb_files.specs.surface.Writes.{CountsFailure};
+ghost use Rattle.std.specs.Prelude.{IfErr, OnErr, OnOk};
+ghost use Rattle.cweb_files.specs.surface.Writes.{Wrote};
 ghost use Rattle.cweb_files.specs.Sinks.{failing, with_printed, written};
 ghost use Rattle.cweb_out.specs.inner.BufferedPrinting.{FlushesPrefix};
 
 pub mod copying;
 
 use crate::buffer::copying::put_slice;
-use cweb_files::{Sink, SinkFault};
+use crate::chunks::ChunkSink;
+use cweb_files::{Sink, SinkFault, write_all};
 use std::alloc::{AllocError, Global};
 use std::boxed::BoxedSlice;
 use std::marker::Model;
@@ -17,16 +18,12 @@ use std::marker::Model;
 pub const ROOM: usize = 65_792;
 
 /// Printed bytes that no sink has yet. The buffer is allocated once and cannot grow.
-///
-/// It is a sink of its own: a string that doesn't fit is refused, and counted as a failed write.
 #[derive(Drop)]
 pub struct OutBuffer {
     /// ROOM bytes, whose first `used` ones are buffered.
     pub bytes: BoxedSlice<u8>,
     /// The number of buffered bytes. Code that writes after them adds to it.
     pub used: usize,
-    /// The number of strings that were refused since it was last set to 0.
-    pub failed: u64,
 }
 
 impl Model for OutBuffer {
@@ -38,7 +35,7 @@ impl Model for OutBuffer {
     ghost Value = { Buffered };
 
     ghost view = { λ g.
-        record { bytes = take g.used (boxed_slice_items g.bytes); failed = g.failed } };
+        record { bytes = take g.used (boxed_slice_items g.bytes) } };
 
     ghost invariant = { λ g. (length (boxed_slice_items g.bytes) ≡ ROOM) × (g.used ≤ ROOM) };
 }
@@ -51,7 +48,6 @@ impl OutBuffer {
         Ok(OutBuffer {
             bytes: Vec::from_elem(alloc, 0, ROOM)?.into_boxed_slice(),
             used: 0,
-            failed: 0,
         })
     }
 
@@ -62,12 +58,47 @@ impl OutBuffer {
         self.used = 0;
     }
 
-    /// Drops all bytes but the first `len` ones.
-    pub fn truncate(&mut self, len: usize)
-        requires { len ≤ length self.old.bytes }
-        ensures { self.new.bytes ≡ take len self.old.bytes }
+    /// Appends bytes. If they don't fit, the buffer is filled and flushed first. What is longer than the buffer after
+    /// that goes to the sink at once. After a fault, a prefix of the bytes is appended or written.
+    #[inline(always)]
+    pub fn append<W: Sink>(&mut self, piece: &[u8], out: &mut W) -> Result<(), SinkFault>
+        requires { (W.model out.old).failed + 1 < 2 ^ 64 }
+        ensures { Wrote piece.now (written self.old.bytes (W.model out.old))
+            (written self.new.bytes (W.model out.new)) result }
     {
-        self.used = len;
+        if self.used + piece.len() > ROOM {
+            return self.append_full(piece, out);
+        }
+        self.push(piece);
+        Ok(())
+    }
+
+    // Appends bytes that don't fit.
+    #[cold]
+    #[inline(never)]
+    fn append_full<W: Sink>(&mut self, piece: &[u8], out: &mut W) -> Result<(), SinkFault>
+        requires count { (W.model out.old).failed + 1 < 2 ^ 64 }
+        requires full { ROOM < length self.old.bytes + length piece.now }
+        ensures { Wrote piece.now (written self.old.bytes (W.model out.old))
+            (written self.new.bytes (W.model out.new)) result }
+    {
+        let (first, rest) = piece.split_at(ROOM - self.used);
+        self.push(first);
+        self.flush(out)?;
+        if rest.len() > ROOM {
+            return write_all(out, rest);
+        }
+        self.push(rest);
+        Ok(())
+    }
+
+    // Appends bytes that fit.
+    #[inline(always)]
+    fn push(&mut self, piece: &[u8])
+        requires { length self.old.bytes + length piece.now ≤ ROOM }
+        ensures { self.new.bytes ≡ self.old.bytes ++ piece.now }
+    {
+        self.used = put_slice(self.bytes.as_mut_slice(), self.used, piece);
     }
 
     /// Writes the buffered bytes to a sink. After a fault, the bytes that weren't written stay buffered.
@@ -81,7 +112,7 @@ impl OutBuffer {
     {
         match write_counted(out, &self.bytes[..self.used]) {
             Ok(()) => {
-                self.used = 0;
+                self.clear();
                 Ok(())
             }
             Err(taken) => {
@@ -101,30 +132,23 @@ impl OutBuffer {
     }
 }
 
-impl Sink for OutBuffer {
-    ghost use Rattle.cweb_out.specs.inner.BufferedPrinting.{buffer_model};
+/// A sink behind a buffer, as one sink. It has written what the sink has, followed by the buffered bytes.
+#[derive(Drop)]
+pub(crate) struct BufferedSink<'b, W: Sink> {
+    pub buffer: &'b mut OutBuffer,
+    pub sink: &'b mut W,
+}
 
-    ghost model = { buffer_model };
+impl<W: Sink> ChunkSink for BufferedSink<'_, W> {
+    ghost use Rattle.std.specs.Prelude.{◌∷◌, []};
+
+    ghost model = { λ s. written s.buffer.now.bytes (W.model s.sink.now) };
+
+    ghost borrows = { λ s. s.buffer.ghost_name ∷ s.sink.ghost_name ∷ [] };
 
     #[inline(always)]
-    fn write(&mut self, piece: &[u8]) -> Result<usize, SinkFault>
-        requires { self.old.failed + 1 < 2 ^ 64 }
-        ensures failed { CountsFailure self.old.failed self.new.failed result }
-        ensures whole { IfOk result (λ n. n ≡ length piece.now) }
-        ensures bytes { OnOk result (self.new.bytes ≡ self.old.bytes ++ piece.now) }
-        ensures refused { OnErr result (self.new.bytes ≡ self.old.bytes) }
-        ensures within_room { length self.old.bytes + length piece.now ≤ ROOM → IsOk result }
-    {
-        if self.used + piece.len() > ROOM {
-            self.failed += 1;
-            return Err(SinkFault);
-        }
-        self.used = put_slice(self.bytes.as_mut_slice(), self.used, piece);
-        Ok(piece.len())
-    }
-
-    fn failures(&self) -> u64 {
-        self.failed
+    fn put(&mut self, piece: &[u8]) -> Result<(), SinkFault> {
+        self.buffer.append(piece, self.sink)
     }
 }
 

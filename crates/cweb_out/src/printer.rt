@@ -16,13 +16,13 @@ pub mod macros;
 pub mod mark;
 pub mod plain;
 
-use crate::chunks::{write_blank, write_chunk};
+use crate::chunks::{ChunkSink, write_blank};
 use crate::printer::edges::is_apart;
 use crate::printer::left::Left;
 use crate::printer::macros::write_macros;
 use crate::printer::mark::write_mark;
 use crate::printer::plain::write_plain;
-use cweb_files::{Sink, SinkFault};
+use cweb_files::{Sink, SinkFault, write_all};
 use cweb_lines::FileNames;
 use cweb_store::{Edge, Store, Token};
 
@@ -73,7 +73,7 @@ impl<'a> Printer<'a> {
         ensures err { OnErr result (self.new ≡ self.old) }
         ensures ends { EndsFile self.old (W.model out.old) (W.model out.new) result }
     {
-        write_chunk(out, self.begin_line())?;
+        write_all(out, self.begin_line())?;
         self.left = Left::start();
         Ok(())
     }
@@ -86,6 +86,21 @@ impl<'a> Printer<'a> {
             (token_model token.now))
             (W.model out.old) (W.model out.new) result }
     {
+        let mut chunks = out;
+        self.put_token(token, &mut chunks)
+    }
+
+    /// Writes the bytes of a token, and a blank before them if one is wanted.
+    #[inline(always)]
+    fn put_token<W: ChunkSink>(&self, token: &Token<'_>, out: &mut W) -> Result<(), SinkFault>
+        requires count { (W.model out.old).failed + 1 < 2 ^ 64 }
+        requires named { MarkFileIsNamed (setting_of self.now) (token_model token.now) }
+        ensures wrote { Wrote
+            (added (file_by (setting_of self.now)) (left_in_printer self.now)
+            (token_model token.now))
+            (W.model out.old) (W.model out.new) result }
+        ensures borrows { W.borrows out.new ≡ W.borrows out.old }
+    {
         if self.left.drops(token) {
             return Ok(());
         }
@@ -95,13 +110,14 @@ impl<'a> Printer<'a> {
     }
 
     #[inline(always)]
-    fn write_placed<W: Sink>(&self, token: &Token<'_>, out: &mut W) -> Result<(), SinkFault>
+    fn write_placed<W: ChunkSink>(&self, token: &Token<'_>, out: &mut W) -> Result<(), SinkFault>
         requires count { (W.model out.old).failed + 1 < 2 ^ 64 }
         requires named { MarkFileIsNamed (setting_of self.now) (token_model token.now) }
         ensures wrote { Wrote
             (own_line_bytes (setting_of self.now) (left_in_printer self.now).last
             (token_model token.now))
             (W.model out.old) (W.model out.new) result }
+        ensures borrows { W.borrows out.new ≡ W.borrows out.old }
     {
         match token {
             Token::Mark(place) => {
@@ -109,7 +125,7 @@ impl<'a> Printer<'a> {
                 write_mark(self.begin_line(), name, place.line, out)
             }
             Token::Defs => {
-                write_chunk(out, self.begin_line())?;
+                out.put(self.begin_line())?;
                 write_macros(self.store, out)
             }
             _ => Ok(()),

@@ -11,19 +11,20 @@ ghost use Rattle.cweb_out.specs.surface.Printed.{at_start, left_after_token, tok
 ghost use Rattle.cweb_out.specs.inner.BufferedPrinting.{blank_where};
 ghost use Rattle.cweb_store.specs.inner.StringLists.{token_bytes_model};
 
-use crate::chunks::{write_blank, write_chunk};
+use crate::chunks::{ChunkSink, write_blank};
 use crate::printer::edges::{edge_is_apart, is_apart};
 use crate::printer::left::Left;
 use crate::printer::plain::write_plain;
-use cweb_files::{Sink, SinkFault};
+use cweb_files::SinkFault;
 use cweb_store::{Edge, Part, Store, Token, TokenBytes, TokenReader};
 
 /// Writes the lines of all macros, in order.
 #[inline(never)]
-pub(crate) fn write_macros<W: Sink>(store: &Store, out: &mut W) -> Result<(), SinkFault>
+pub(crate) fn write_macros<W: ChunkSink>(store: &Store, out: &mut W) -> Result<(), SinkFault>
     requires { (W.model out.old).failed + 1 < 2 ^ 64 }
     ensures wrote { Wrote (flat_map (macro_line (replaced_in store.now)) (macros store.now))
         (W.model out.old) (W.model out.new) result }
+    ensures borrows { W.borrows out.new ≡ W.borrows out.old }
 {
     let mut parts = store.macros();
     'macros: while let Some(part) = parts.next() {
@@ -32,25 +33,31 @@ pub(crate) fn write_macros<W: Sink>(store: &Store, out: &mut W) -> Result<(), Si
     Ok(())
 }
 
-pub(crate) fn write_macro<W: Sink>(store: &Store, part: Part, out: &mut W) -> Result<(), SinkFault>
+pub(crate) fn write_macro<W: ChunkSink>(
+    store: &Store,
+    part: Part,
+    out: &mut W,
+) -> Result<(), SinkFault>
     requires count { (W.model out.old).failed + 1 < 2 ^ 64 }
     requires ordered { part.first ≤ part.after }
     requires within { part.after ≤ length (all_tokens store.now.parts) }
     ensures wrote { Wrote (macro_line (replaced_in store.now) (tokens_of_part store.now part))
         (W.model out.old) (W.model out.new) result }
+    ensures borrows { W.borrows out.new ≡ W.borrows out.old }
 {
-    write_chunk(out, b"#define ")?;
+    out.put(b"#define ")?;
     write_macro_tokens(store, part, out)?;
-    write_chunk(out, b"\n")
+    out.put(b"\n")
 }
 
-fn write_macro_tokens<W: Sink>(store: &Store, part: Part, out: &mut W) -> Result<(), SinkFault>
+fn write_macro_tokens<W: ChunkSink>(store: &Store, part: Part, out: &mut W) -> Result<(), SinkFault>
     requires count { (W.model out.old).failed + 1 < 2 ^ 64 }
     requires ordered { part.first ≤ part.after }
     requires within { part.after ≤ length (all_tokens store.now.parts) }
     ensures wrote { Wrote
         (all_added (macro_by (replaced_in store.now)) at_start (tokens_of_part store.now part))
         (W.model out.old) (W.model out.new) result }
+    ensures borrows { W.borrows out.new ≡ W.borrows out.old }
 {
     let token_reader = store.token_reader();
     let mut left = Left::start();
@@ -62,7 +69,7 @@ fn write_macro_tokens<W: Sink>(store: &Store, part: Part, out: &mut W) -> Result
 
 // Writes a token and returns the state after it.
 #[inline(always)]
-fn write_macro_token<W: Sink>(
+fn write_macro_token<W: ChunkSink>(
     store: &Store,
     token_reader: &TokenReader<'_>,
     left: Left,
@@ -76,6 +83,7 @@ fn write_macro_token<W: Sink>(
     ensures wrote { Wrote
         (added (macro_by (replaced_in store.now)) left (token_at store.now number))
         (W.model out.old) (W.model out.new) result }
+    ensures borrows { W.borrows out.new ≡ W.borrows out.old }
 {
     if let (false, Some(direct)) = (left.joined, token_reader.direct(number)) {
         write_direct(left.last, direct, out)?;
@@ -89,15 +97,20 @@ fn write_macro_token<W: Sink>(
 
 // Fast path: writes a token that is printed as its own bytes.
 #[inline(always)]
-fn write_direct<W: Sink>(last: Edge, direct: TokenBytes<'_>, out: &mut W) -> Result<(), SinkFault>
+fn write_direct<W: ChunkSink>(
+    last: Edge,
+    direct: TokenBytes<'_>,
+    out: &mut W,
+) -> Result<(), SinkFault>
     requires { (W.model out.old).failed + 1 < 2 ^ 64 }
     ensures wrote { Wrote
         (blank_where (edge_is_apart last direct.entry.edge)
         ++ continued_by (token_bytes_model direct.entry))
         (W.model out.old) (W.model out.new) result }
+    ensures borrows { W.borrows out.new ≡ W.borrows out.old }
 {
     write_blank(out, edge_is_apart(last, direct.edge))?;
-    write_chunk(out, continued_bytes(direct))
+    out.put(continued_bytes(direct))
 }
 
 // A newline in a macro becomes a backslash and a newline.
@@ -113,7 +126,7 @@ fn continued_bytes(direct: TokenBytes<'_>) -> &[u8]
 
 // Slow path. It is apart, so that the loop above needs fewer registers.
 #[inline(never)]
-fn write_other<W: Sink>(
+fn write_other<W: ChunkSink>(
     store: &Store,
     left: Left,
     number: u32,
@@ -125,13 +138,14 @@ fn write_other<W: Sink>(
     ensures wrote { Wrote
         (added (macro_by (replaced_in store.now)) left (token_at store.now number))
         (W.model out.old) (W.model out.new) result }
+    ensures borrows { W.borrows out.new ≡ W.borrows out.old }
 {
     let token = store.token(number);
     write_spaced(store, left, &token, out)?;
     Ok(left.after(&token))
 }
 
-fn write_spaced<W: Sink>(
+fn write_spaced<W: ChunkSink>(
     store: &Store,
     left: Left,
     token: &Token<'_>,
@@ -140,12 +154,13 @@ fn write_spaced<W: Sink>(
     requires { (W.model out.old).failed + 1 < 2 ^ 64 }
     ensures wrote { Wrote (added (macro_by (replaced_in store.now)) left (token_model token.now))
         (W.model out.old) (W.model out.new) result }
+    ensures borrows { W.borrows out.new ≡ W.borrows out.old }
 {
     if left.drops(token) {
         return Ok(());
     }
     write_blank(out, is_apart(left.last, token))?;
-    write_chunk(out, continued(token))?;
+    out.put(continued(token))?;
     write_plain(store, token, out)
 }
 

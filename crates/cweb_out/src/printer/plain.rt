@@ -6,8 +6,8 @@ ghost use Rattle.cweb_store.specs.surface.Tokens.{token_model};
 ghost use Rattle.cweb_out.specs.Printing.{plain_bytes, word_byte, word_bytes, hex_digit, replaced_in};
 ghost use Rattle.cweb_out.specs.inner.Edges.{numbered_comment};
 
-use crate::chunks::{write_chunk, write_three};
-use cweb_files::{Sink, SinkFault};
+use crate::chunks::{ChunkSink, write_three};
+use cweb_files::SinkFault;
 use cweb_store::{Store, Token};
 use itoa::Buffer;
 
@@ -19,46 +19,50 @@ fn hex_digit(n: u8) -> u8
 }
 
 // The replacement of a byte from 128 on: the store's, or `X` and two hexadecimal digits.
-fn write_replaced<W: Sink>(store: &Store, byte: u8, out: &mut W) -> Result<(), SinkFault>
+fn write_replaced<W: ChunkSink>(store: &Store, byte: u8, out: &mut W) -> Result<(), SinkFault>
     requires { (W.model out.old).failed + 1 < 2 ^ 64 }
     ensures wrote { Wrote (replaced_in store.now byte) (W.model out.old) (W.model out.new) result }
+    ensures borrows { W.borrows out.new ≡ W.borrows out.old }
 {
     match store.replacement(byte) {
-        Some(text) => write_chunk(out, text),
-        None => write_chunk(out, &[b'X', hex_digit(byte / 16), hex_digit(byte % 16)]),
+        Some(text) => out.put(text),
+        None => out.put(&[b'X', hex_digit(byte / 16), hex_digit(byte % 16)]),
     }
 }
 
-fn write_word_byte<W: Sink>(store: &Store, byte: u8, out: &mut W) -> Result<(), SinkFault>
+fn write_word_byte<W: ChunkSink>(store: &Store, byte: u8, out: &mut W) -> Result<(), SinkFault>
     requires { (W.model out.old).failed + 1 < 2 ^ 64 }
     ensures wrote { Wrote (word_byte (replaced_in store.now) byte)
         (W.model out.old) (W.model out.new) result }
+    ensures borrows { W.borrows out.new ≡ W.borrows out.old }
 {
     if byte >= 128 {
         write_replaced(store, byte, out)
     } else {
-        write_chunk(out, &[byte])
+        out.put(&[byte])
     }
 }
 
 // Most Words are ASCII and need only one write.
-fn write_word<W: Sink>(store: &Store, bytes: &[u8], out: &mut W) -> Result<(), SinkFault>
+fn write_word<W: ChunkSink>(store: &Store, bytes: &[u8], out: &mut W) -> Result<(), SinkFault>
     requires { (W.model out.old).failed + 1 < 2 ^ 64 }
     ensures wrote { Wrote (word_bytes (replaced_in store.now) bytes.now)
         (W.model out.old) (W.model out.new) result }
+    ensures borrows { W.borrows out.new ≡ W.borrows out.old }
 {
     if has_high_byte(bytes) {
         write_word_bytes(store, bytes, out)
     } else {
-        write_chunk(out, bytes)
+        out.put(bytes)
     }
 }
 
 #[inline(never)]
-fn write_word_bytes<W: Sink>(store: &Store, bytes: &[u8], out: &mut W) -> Result<(), SinkFault>
+fn write_word_bytes<W: ChunkSink>(store: &Store, bytes: &[u8], out: &mut W) -> Result<(), SinkFault>
     requires { (W.model out.old).failed + 1 < 2 ^ 64 }
     ensures wrote { Wrote (word_bytes (replaced_in store.now) bytes.now)
         (W.model out.old) (W.model out.new) result }
+    ensures borrows { W.borrows out.new ≡ W.borrows out.old }
 {
     'bytes: for byte in bytes {
         write_word_byte(store, *byte, out)?;
@@ -73,7 +77,7 @@ fn has_high_byte(bytes: &[u8]) -> bool
 }
 
 #[inline(always)]
-fn write_numbered<W: Sink>(
+fn write_numbered<W: ChunkSink>(
     before: &[u8],
     section: u32,
     after: &[u8],
@@ -82,6 +86,7 @@ fn write_numbered<W: Sink>(
     requires { (W.model out.old).failed + 1 < 2 ^ 64 }
     ensures wrote { Wrote (numbered_comment before.now section after.now)
         (W.model out.old) (W.model out.new) result }
+    ensures borrows { W.borrows out.new ≡ W.borrows out.old }
 {
     let mut digits = Buffer::new();
     write_three(out, before, digits.format(section).as_bytes(), after)
@@ -89,7 +94,7 @@ fn write_numbered<W: Sink>(
 
 /// Writes the bytes of a token. A use, Defs or line mark has none here.
 #[inline(always)]
-pub(crate) fn write_plain<W: Sink>(
+pub(crate) fn write_plain<W: ChunkSink>(
     store: &Store,
     token: &Token<'_>,
     out: &mut W,
@@ -97,15 +102,16 @@ pub(crate) fn write_plain<W: Sink>(
     requires { (W.model out.old).failed + 1 < 2 ^ 64 }
     ensures wrote { Wrote (plain_bytes (replaced_in store.now) (token_model token.now))
         (W.model out.old) (W.model out.new) result }
+    ensures borrows { W.borrows out.new ≡ W.borrows out.old }
 {
     match token {
         Token::Word(bytes) => write_word(store, bytes, out),
         Token::Number(bytes)
         | Token::Literal(bytes)
         | Token::Verbatim(bytes)
-        | Token::Punct(bytes) => write_chunk(out, bytes),
-        Token::Blank => write_chunk(out, b" "),
-        Token::Newline => write_chunk(out, b"\n"),
+        | Token::Punct(bytes) => out.put(bytes),
+        Token::Blank => out.put(b" "),
+        Token::Newline => out.put(b"\n"),
         Token::Head(section) => write_numbered(b"/*", *section, b":*/", out),
         Token::Tail(section) => write_numbered(b"/*:", *section, b"*/", out),
         Token::Join | Token::Defs | Token::Name(_) | Token::Mark(_) => Ok(()),

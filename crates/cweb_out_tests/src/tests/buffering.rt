@@ -90,6 +90,12 @@ fn printed(
     same_bytes(rt, chunks.bytes(), tokens.bytes());
     holds(rt, chunks.bytes().len() == sizes.bytes);
     same_number(rt, chunks.writes, sizes.writes);
+    holds(rt, are_few(chunks.writes, sizes.bytes));
+}
+
+// At most a write for each 65,536 bytes, and two more.
+fn are_few(writes: u64, bytes: usize) -> bool {
+    writes <= (bytes as u64 / 65_536).saturating_add(2)
 }
 
 // The first output of a plan, buffered.
@@ -157,20 +163,41 @@ fn a_word_of_each_length(rt: HostRuntime) {
     }
 }
 
-// What doesn't fit the buffer is buffered after a flush, or written at once if it is longer than the whole buffer.
+// What doesn't fit fills the buffer, which is flushed. If the rest is longer than the buffer, it is written at once.
 #[test]
 fn a_word_at_the_end_of_the_room(rt: HostRuntime) {
     const EXAMPLES: &[(usize, u64)] = &[
         (ROOM - 3, 1),
         (ROOM - 2, 1),
         (ROOM - 1, 2),
-        (ROOM, 3),
+        (ROOM, 2),
         (3 * ROOM, 3),
     ];
     for (size, writes) in EXAMPLES {
         let web = (": wa v", "x", *size, "");
         takes_repeated(&rt, rt.alloc(), web, size.saturating_add(2), *writes);
     }
+}
+
+// The line of a macro with 40,000 numbers is longer than the buffer.
+#[test]
+fn a_macro_across_the_end_of_the_room(rt: HostRuntime) {
+    let web = ("# wtable _", " n0 p,", 40_000, " : wx");
+    takes_repeated(&rt, rt.alloc(), web, 80_017, 2);
+}
+
+// The lines of 10,000 macros.
+#[test]
+fn macros_across_the_end_of_the_room(rt: HostRuntime) {
+    let web = ("", "# wN _ n1 ", 10_000, ": wx");
+    takes_repeated(&rt, rt.alloc(), web, 120_002, 2);
+}
+
+// Five literals, each of which takes more than half of the buffer.
+#[test]
+fn long_literals_across_the_end_of_the_room(rt: HostRuntime) {
+    let web = (": <A <A <A <A <A =A l", "x", 40_000, "");
+    takes_repeated(&rt, rt.alloc(), web, 200_001, 4);
 }
 
 // Words of two bytes with a blank between them.

@@ -5,8 +5,8 @@ use Rattle.cweb_out.proofs.AppendedParts.{wrote_err}
 use Rattle.cweb_out.proofs.Steps.{file-end}
 use Rattle.cweb_out.proofs.printer.Printer.end.Goals as goal
 
-pub returns-in_err-write_chunk-clause-ends : goal.returns-in_err-write_chunk-clause-ends
-returns-in_err-write_chunk-clause-ends g c =
+pub returns-in_err-write_all-clause-ends : goal.returns-in_err-write_all-clause-ends
+returns-in_err-write_all-clause-ends g c =
     let s = setting_of c.args.self.now in
     record {
       bytes = c.begin_line.result.now;

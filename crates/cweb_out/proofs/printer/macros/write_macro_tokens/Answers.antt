@@ -24,10 +24,11 @@ tokens-preserved g c =
       left = left_more ts first n t c.tokens.left c.in_ok-left.left c.tokens.invariant.from
           (there w n within) c.tokens.invariant.left c.in_ok-left.ensures.next;
       wrote = written_then (all_added by at_start (slice_range ts first n)) (added by c.tokens.left t)
-          (g.W.Sink.model c.args.out.now) c.tokens.invariant.wrote c.in_ok-left.ensures.wrote
-          ∙ ap (λ (text : List ℕ). written text (g.W.Sink.model c.args.out.now))
+          (g.W.ChunkSink.model c.args.out.now) c.tokens.invariant.wrote c.in_ok-left.ensures.wrote
+          ∙ ap (λ (text : List ℕ). written text (g.W.ChunkSink.model c.args.out.now))
           (one_added by ts first n t c.tokens.left c.tokens.invariant.from (there w n within)
           c.tokens.invariant.left);
+      borrows = grind arith;
     }
 
 pub returns-in_err-left : goal.returns-in_err-left
@@ -43,4 +44,5 @@ returns-in_err-left g c =
           (replaced_in w)) ts first n c.args.part.after t c.tokens.left c.tokens.invariant.from lt
           c.requires.within (there w n within) c.tokens.invariant.left) c.tokens.invariant.wrote
           c.in_err-left.ensures.wrote;
+      borrows = grind arith;
     }

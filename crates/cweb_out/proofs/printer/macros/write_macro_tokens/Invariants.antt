@@ -6,6 +6,7 @@ invariant-tokens g l = record {
   from : l.fn.part.first ≤ l.number;
   end : l.number-end ≡ l.fn.part.after;
   left : l.left ≡ left_after_tokens (slice_range (all_tokens l.store.parts) l.fn.part.first l.number);
-  wrote : g.W.Sink.model l.out ≡ written (all_added (macro_by (replaced_in l.store)) at_start
-      (slice_range (all_tokens l.store.parts) l.fn.part.first l.number)) (g.W.Sink.model l.fn.out);
+  wrote : g.W.ChunkSink.model l.out ≡ written (all_added (macro_by (replaced_in l.store)) at_start
+      (slice_range (all_tokens l.store.parts) l.fn.part.first l.number)) (g.W.ChunkSink.model l.fn.out);
+  borrows : g.W.ChunkSink.borrows l.out ≡ g.W.ChunkSink.borrows l.fn.out;
 }

@@ -17,9 +17,10 @@ macros-preserved g c =
       within = (All-tail (λ (p : Part). p.after ≤ length (all_tokens w.parts)) c.macros.parts
           c.next.new.self c.in-Some.part is c.macros.invariant.within).1;
       wrote = before_then (macro_line (replaced_in w) (tokens_of_part w c.in-Some.part)) (lines w c.next.new.self)
-          (subst (λ (ps : List Part). WrittenBefore (g.W.Sink.model c.args.out.now) (g.W.Sink.model c.macros.out)
+          (subst (λ (ps : List Part). WrittenBefore (g.W.ChunkSink.model c.args.out.now) (g.W.ChunkSink.model c.macros.out)
           (all_lines w) (lines w ps)) is c.macros.invariant.wrote)
           c.in_ok-write_macro.ensures.wrote;
+      borrows = grind arith;
     }
 
 pub returns-in_err-write_macro : goal.returns-in_err-write_macro
@@ -29,7 +30,8 @@ returns-in_err-write_macro g c =
     record {
       wrote = before_until _ _ _ (all_lines w) (macro_line (replaced_in w) (tokens_of_part w c.in-Some.part))
           (lines w c.next.new.self) c.from_residual.result c.from_residual.ensures.0
-          (subst (λ (ps : List Part). WrittenBefore (g.W.Sink.model c.args.out.now) (g.W.Sink.model c.macros.out)
+          (subst (λ (ps : List Part). WrittenBefore (g.W.ChunkSink.model c.args.out.now) (g.W.ChunkSink.model c.macros.out)
           (all_lines w) (lines w ps)) is c.macros.invariant.wrote)
           c.in_err-write_macro.ensures.wrote;
+      borrows = grind arith;
     }

@@ -13,13 +13,14 @@ in_three replaced left t apart continued stays is continues = cc (stays, is, con
 pub returns-in_err-write_blank : goal.returns-in_err-write_blank
 returns-in_err-write_blank g c = grind (arith, wrote_until, in_three)
 
-pub returns-in_err-write_chunk : goal.returns-in_err-write_chunk
-returns-in_err-write_chunk g c = grind (arith, second_until, in_three)
+pub returns-in_err-put : goal.returns-in_err-put
+returns-in_err-put g c = grind (arith, second_until, in_three)
 
 pub returns : goal.returns
 returns g c = record {
   wrote = three_then _ _ _ _ _ (blank_where c.is_apart.result) c.continued.result.now _ c.write_plain.result
       (in_three (replaced_in c.args.store.now) c.args.left (token_model c.args.token.now) c.is_apart.result _
       (sym c.drops.ensures ∙ c.if-drops.false) c.is_apart.ensures c.continued.ensures)
-      c.in_ok-write_blank.ensures.wrote c.in_ok-write_chunk.ensures.wrote c.write_plain.ensures.wrote;
+      c.in_ok-write_blank.ensures.wrote c.in_ok-put.ensures.wrote c.write_plain.ensures.wrote;
+  borrows = grind arith;
 }

@@ -1,15 +1,17 @@
+use Rattle.std.proofs.Common.{arith}
 use Rattle.cweb_out.proofs.Common.{quoted_byte}
 use Rattle.cweb_out.proofs.AppendedParts.{items_then, items_until}
 use Rattle.cweb_files.proofs.Appending.{written_none}
 use Rattle.cweb_out.proofs.printer.mark.write_quoted_bytes.Goals as goal
 
 pub bytes-init : goal.bytes-init
-bytes-init g c = record { wrote = written_none (g.W.Sink.model c.args.out.now) }
+bytes-init g c = record { wrote = written_none (g.W.ChunkSink.model c.args.out.now); borrows = grind arith }
 
 pub bytes-preserved : goal.bytes-preserved
 bytes-preserved g c = record {
   wrote = items_then quoted_byte c.args.name.now c.bytes.byte-index _ _ _ c.bytes-test.true c.bytes.invariant.wrote
       c.in_ok-write_quoted_byte.ensures.wrote;
+  borrows = grind arith;
 }
 
 pub returns-in_err-write_quoted_byte : goal.returns-in_err-write_quoted_byte
@@ -17,4 +19,5 @@ returns-in_err-write_quoted_byte g c = record {
   wrote =
       items_until quoted_byte c.args.name.now c.bytes.byte-index _ _ _ _ c.from_residual.result c.bytes-test.true
       c.from_residual.ensures.0 c.bytes.invariant.wrote c.in_err-write_quoted_byte.ensures.wrote;
+  borrows = grind arith;
 }

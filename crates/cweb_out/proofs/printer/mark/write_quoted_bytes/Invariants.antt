@@ -3,5 +3,6 @@ use Rattle.cweb_out.proofs.printer.mark.write_quoted_bytes.Given as goal
 
 abbrev pub invariant-bytes : goal.invariant-bytes
 invariant-bytes g l = record {
-  wrote : g.W.Sink.model l.out ≡ written (quoted (take l.byte-index l.name)) (g.W.Sink.model l.fn.out);
+  wrote : g.W.ChunkSink.model l.out ≡ written (quoted (take l.byte-index l.name)) (g.W.ChunkSink.model l.fn.out);
+  borrows : g.W.ChunkSink.borrows l.out ≡ g.W.ChunkSink.borrows l.fn.out;
 }

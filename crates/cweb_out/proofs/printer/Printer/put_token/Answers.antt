@@ -2,7 +2,7 @@ use Rattle.std.proofs.Common.{arith}
 use Rattle.cweb_out.proofs.Common.{◌≡◌, ◌++◌, Bool, Token, false, Printer, plain_bytes, added, file_by, is_apart, is_dropped, blank_where, own_line_bytes, left_in_printer, setting_of}
 use Rattle.cweb_files.proofs.Appending.{wrote_until}
 use Rattle.cweb_out.proofs.AppendedParts.{second_until, three_then}
-use Rattle.cweb_out.proofs.printer.Printer.write_token.Goals as goal
+use Rattle.cweb_out.proofs.printer.Printer.put_token.Goals as goal
 
 -- The token's bytes as three parts.
 in_three : (p : Printer) (t : Token) (apart : Bool) → is_dropped (left_in_printer p) t ≡ false
