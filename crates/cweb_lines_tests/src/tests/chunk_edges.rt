@@ -2,8 +2,10 @@
 use super::*;
 use std::process::Abort;
 
-// This many lines of 64 bytes come first, so that the first read ends 64 bytes after them.
-const LINES_BEFORE: usize = 1023;
+// So many lines of 64 bytes come first. The first read, of 4,096 bytes, or the second, of 65,536, ends 64 bytes after them.
+const BEFORE_FIRST: usize = 63;
+
+const BEFORE_SECOND: usize = 1087;
 
 const LINE_BEFORE: &[u8] = b"int counter_of_all_the_lines_in_front[] = { 1, 2, 3, 4, 5, 6 };\n";
 
@@ -12,13 +14,20 @@ const TAIL: &[u8] = b"one\ntwo \t\nthree\n@i b.w\nfour\nfive\nold\n\nsix  \nseve
 
 const TAIL_MERGED: &[u8] = b"one\ntwo\nthree\nin b\nfour\nfive\nnew\n\nsix\nseven\nlast\n";
 
-// These lines, then a line of `length` bytes, then `tail`.
-fn source_with(alloc: Global, length: usize, tail: &[u8]) -> Result<Vec<u8>, AllocError> {
+// A web: so many lines of 64 bytes, then a line of `length` bytes, then more.
+#[derive(Clone, Copy)]
+struct Web {
+    before: usize,
+    length: usize,
+}
+
+// The text of a web with this tail.
+fn source_with(alloc: Global, web: Web, tail: &[u8]) -> Result<Vec<u8>, AllocError> {
     let mut text = Vec::new(alloc);
-    for _ in 0..LINES_BEFORE {
+    for _ in 0..web.before {
         text.extend_from_slice(LINE_BEFORE)?;
     }
-    for _ in 0..length {
+    for _ in 0..web.length {
         text.push(b'x')?;
     }
     text.push(b'\n')?;
@@ -66,7 +75,7 @@ fn add_lines(
     text: &mut Vec<u8>,
     looks_ahead: bool,
 ) -> Result<(), Stop> {
-    for _ in 0..2 * LINES_BEFORE {
+    for _ in 0..2 * BEFORE_SECOND {
         if !add_line(merger, shelf, line, text, looks_ahead)? {
             break;
         }
@@ -123,13 +132,13 @@ impl Case<MemoryShelf, Fail> for Merging<'_> {
     }
 }
 
-// Merges the web with a line of `length` bytes.
+// Merges the web.
 fn merge_long(
     rt: &(impl AllocGlobal + Abort),
-    length: usize,
+    web: Web,
     merging: &mut Merging<'_>,
 ) -> Result<(), Fail> {
-    let text = source_with(rt.alloc(), length, TAIL)?;
+    let text = source_with(rt.alloc(), web, TAIL)?;
     let files = [
         ("a.w", text.as_slice()),
         ("b.w", b"in b "),
@@ -141,38 +150,51 @@ fn merge_long(
 // Merges it in each of these ways.
 fn merges(
     rt: &(impl AllocGlobal + Abort),
-    length: usize,
+    web: Web,
     ways: &[Way],
     case: usize,
 ) -> Result<(), Fail> {
-    let text = source_with(rt.alloc(), length, TAIL_MERGED)?;
+    let text = source_with(rt.alloc(), web, TAIL_MERGED)?;
     for way in ways {
         let mut merging = Merging {
             text: &text,
             way: *way,
             case,
         };
-        merge_long(rt, length, &mut merging)?;
+        merge_long(rt, web, &mut merging)?;
     }
     Ok(())
 }
 
-// The first read ends at each byte after the long line.
-#[test]
-fn lines_around_the_end_of_a_read(rt: HostRuntime) -> Result<(), Fail> {
+// A read ends at each byte after the long line.
+fn merges_around_reads(rt: &(impl AllocGlobal + Abort), before: usize) -> Result<(), Fail> {
     const WAYS: &[Way] = &[Way::Buffered(65536), Way::OneByOne, Way::LookedAt];
     for length in 8..64usize {
-        merges(&rt, length, WAYS, length)?;
+        merges(rt, Web { before, length }, WAYS, length)?;
     }
     Ok(())
+}
+
+#[test]
+fn lines_around_the_end_of_the_first_read(rt: HostRuntime) -> Result<(), Fail> {
+    merges_around_reads(&rt, BEFORE_FIRST)
+}
+
+#[test]
+fn lines_around_the_end_of_a_later_read(rt: HostRuntime) -> Result<(), Fail> {
+    merges_around_reads(&rt, BEFORE_SECOND)
 }
 
 // No line is lost or repeated at the end of a chunk.
 #[test]
 fn lines_around_the_end_of_a_chunk(rt: HostRuntime) -> Result<(), Fail> {
     const ROOMS: &[usize] = &[0, 1, 64, 65, 1000, 65471, 65472, 65473];
+    let web = Web {
+        before: BEFORE_SECOND,
+        length: 5,
+    };
     for room in ROOMS {
-        merges(&rt, 5, &[Way::Buffered(*room)], *room)?;
+        merges(&rt, web, &[Way::Buffered(*room)], *room)?;
     }
     Ok(())
 }

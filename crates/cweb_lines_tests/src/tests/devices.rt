@@ -37,6 +37,34 @@ impl Shelf for Endless {
     }
 }
 
+/// Each name has lines without end, but only its first `size` bytes.
+#[derive(Drop)]
+pub struct Ending {
+    pub lines: Endless,
+    pub size: usize,
+}
+
+impl Shelf for Ending {
+    // the number of bytes of the current line that were read, and of all bytes that are left
+    type R = (usize, usize);
+
+    ghost model = { λ _. record { failed = 0; contents = None } };
+
+    fn fetch(&mut self, _: &str) -> Result<Option<(usize, usize)>, AllocError> {
+        Ok(Some((0, self.size)))
+    }
+
+    fn read(&mut self, reader: &mut (usize, usize), piece: &mut [u8]) -> Result<usize, ShelfFault> {
+        let n = piece.len().min(reader.1);
+        reader.1 -= n;
+        self.lines.read(&mut reader.0, &mut piece[..n])
+    }
+
+    fn failures(&self) -> u64 {
+        0
+    }
+}
+
 /// Files in memory. The change file `c.ch` goes on with lines without end.
 #[derive(Drop)]
 pub struct EndlessChange {

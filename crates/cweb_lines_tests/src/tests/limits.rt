@@ -1,5 +1,5 @@
 // Lines that are too long, and files that are too long.
-use super::devices::{Endless, EndlessChange};
+use super::devices::{Ending, Endless, EndlessChange};
 use super::*;
 use std::process::Abort;
 
@@ -180,6 +180,86 @@ fn empty_lines_that_never_end(rt: HostRuntime) -> Result<(), Fail> {
 #[test]
 fn long_lines_that_never_end(rt: HostRuntime) -> Result<(), Fail> {
     take_all(&rt, 1_048_575, 1024, Stop::TooMuchText)
+}
+
+// 1,024 lines of 1,048,574 bytes, then a line of `length` bytes without newline, or a stop.
+#[derive(Clone, Copy)]
+struct LastLine {
+    lines: Lines,
+    length: Option<usize>,
+}
+
+impl LastLine {
+    fn comes<S: Shelf>(
+        &self,
+        rt: &impl Abort,
+        merger: &mut Merger<S>,
+        shelf: &mut S,
+        line: &mut Vec<u8>,
+        length: usize,
+    ) -> Result<(), Stop> {
+        holds(rt, shelf.failures() == 0);
+        let want = Place {
+            file: FileId(0),
+            line: 1025,
+        };
+        comes(rt, merger.next_line(shelf, line)?, want);
+        holds(rt, line.len() == length);
+        holds(rt, shelf.failures() == 0);
+        holds(rt, merger.next_line(shelf, line)?.is_none());
+        Ok(())
+    }
+}
+
+impl<S: Shelf> Case<S, Fail> for LastLine {
+    fn ask<A: Abort>(
+        &mut self,
+        rt: &A,
+        merger: &mut Merger<S>,
+        shelf: &mut S,
+        filled: &mut Filled,
+    ) -> Result<(), Fail> {
+        self.lines.come(rt, merger, shelf, &mut filled.line)?;
+        match self.length {
+            Some(length) => self.comes(rt, merger, shelf, &mut filled.line, length)?,
+            None => self.lines.stop(rt, merger, shelf, &mut filled.line),
+        }
+        Ok(())
+    }
+}
+
+// A web of `size` bytes.
+fn take_last(
+    rt: &(impl AllocGlobal + Abort),
+    size: usize,
+    length: Option<usize>,
+) -> Result<(), Fail> {
+    let lines = Lines {
+        first: Place {
+            file: FileId(0),
+            line: 1,
+        },
+        length: 1_048_574,
+        lines: 1024,
+        stop: Stop::TooMuchText,
+        reported: "0 is a.w\n",
+    };
+    let mut shelf = Ending {
+        lines: Endless { length: 1_048_574 },
+        size,
+    };
+    merge(rt, &mut shelf, &WEB, &mut LastLine { lines, length })
+}
+
+// A last line without newline counts its bytes alone, so a text of just as many bytes as may be taken is accepted.
+#[test]
+fn a_text_of_the_maximum_size(rt: HostRuntime) -> Result<(), Fail> {
+    take_last(&rt, 1_073_741_824, Some(1024))
+}
+
+#[test]
+fn a_text_of_one_byte_more(rt: HostRuntime) -> Result<(), Fail> {
+    take_last(&rt, 1_073_741_825, None)
 }
 
 // A web, and a change file that begins with `prefix`.
