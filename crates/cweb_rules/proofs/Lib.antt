@@ -21,6 +21,7 @@ pub mod LineDelimiters
 pub mod LineMatches
 pub mod InLines
 mod MatchExamples
+mod CodeExamples
 pub mod Lasts
 pub mod Chosen
 pub mod Joins

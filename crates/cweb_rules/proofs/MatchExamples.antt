@@ -1,6 +1,8 @@
 -- Worked examples of lexemes.
 use Rattle.cweb_rules.proofs.Common.{◌≡◌, true, false, Some, None, [], ◌∷◌, codes, Place, Limbo, TeX, Definition, Macro, CText, Faulty, Closed, Cut, Nested, DoubleAtInLimbo, IgnoredInCText, match_in, Skipped, Section, Code, Letter, Constant, Occurrence, Comment, Quoted, Defined, Numeral, Punctuator, rule_match, Goes, Ends, look_in_control}
 use Rattle.cweb_rules.proofs.ItemReaches.{reach_of_control_text}
+use Rattle.cweb_rules.specs.declared.constants.TheConstants.{MAX_REPLACEMENT}
+use Rattle.cweb_rules.specs.declared.literals.TheConstants.{MAX_DELIMITER}
 
 abbrev here : Place
 here = record { file = record { 0 = 0 }; line = 1 }
@@ -36,6 +38,9 @@ record Computed : Type 0 where
   its_rule_goes_on_at_a_unit : look_in_control (codes "@@b@>c") ≡ Goes 2
   its_rule_ends_it_after_the_last_unit : look_in_control (codes "@>c") ≡ Ends 2 Closed
   section_at_the_end : match_in TeX false (codes "@") ≡ rule_match (Section false) 1
+  -- the limits
+  longest_replacement : MAX_REPLACEMENT ≡ 31
+  longest_delimiter : MAX_DELIMITER ≡ 16
 
 computed : Computed
 computed = search

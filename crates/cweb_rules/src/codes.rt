@@ -23,7 +23,7 @@ pub fn in_tex(letter: u8) -> Effect
     match letter {
         b'd' | b'D' => Effect::Define,
         b'c' | b'C' | b'p' | b'P' => Effect::Program,
-        b'<' | b'(' => Effect::Named,
+        b'(' | b'<' => Effect::Named,
         _ => Effect::Nothing,
     }
 }
