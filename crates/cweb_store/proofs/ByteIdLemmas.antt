@@ -3,7 +3,7 @@ use Rattle.cweb_store.proofs.Common.{◌≡◌, ℕ, ◌+◌, ◌≤◌, ◌<◌
 use Rattle.cweb_store.proofs.ListLemmas.{get-set}
 use Rattle.cweb_store.proofs.StringListLemmas.{get-grow}
 use Rattle.cweb_store.proofs.TotalLemmas.{with-word-any}
-use Rattle.cweb_store.proofs.InterningLemmas.{known}
+use Rattle.cweb_store.proofs.InterningLemmas.{adds, known}
 
 -- Interning a string keeps all byte ids valid.
 pub byte_ids-string : (old new : StringTableModel) (byte_ids string : List ℕ) (number : ℕ)
@@ -25,8 +25,9 @@ pub byte_ids-word : (old new : StringTableModel) (byte_ids word : List ℕ) (num
     → AreByteIds old byte_ids → AreByteIds new byte_ids
 byte_ids-word old new byte_ids word number keeps are = λ byte n h.
     let sign = are byte n h in
+    let more = adds old word number new keeps in
     record {
-      stored = ap (λ ts. slice_get ts n) keeps.grows ∙ get-grow old.strings keeps.more n (byte ∷ []) sign.stored;
+      stored = ap (λ ts. slice_get ts n) more.grows ∙ get-grow old.strings more.more n (byte ∷ []) sign.stored;
       among =
           has-more old new word (byte ∷ []) number keeps ∙ ap (λ b. b || bytes_eq (byte ∷ []) word) sign.among;
     }

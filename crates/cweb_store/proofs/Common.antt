@@ -63,11 +63,10 @@ pub use Rattle.cweb_store.specs.declared.parts.PartKind.{PartKind}
 pub use Rattle.cweb_store.specs.declared.parts.PartKind.TheVariants.{Unnamed, Named, Macro}
 pub use Rattle.cweb_store.specs.declared.parts.PartRange.{PartRange}
 pub use Rattle.cweb_store.specs.declared.parts.links.Links.{Links}
-pub use Rattle.cweb_store.specs.declared.table.OccurrenceForm.{OccurrenceForm}
 pub use Rattle.cweb_store.specs.declared.tokens.records.Record.{Record}
 pub use Rattle.cweb_store.specs.declared.words.key.Key.{Key}
 pub use Rattle.cweb_store.specs.inner.DirectBytes.{direct_bytes}
-pub use Rattle.cweb_store.specs.inner.Known.{files_from, occurrence_form, occurrences_at, found_of, is_several}
+pub use Rattle.cweb_store.specs.inner.Known.{files_from, occurrences_at, found_of, is_several}
 pub use Rattle.cweb_store.specs.inner.Known.{NameEntry, compare_bytes, entry_has_prefix, IsNameMap, id_of_spelling}
 pub use Rattle.cweb_store.specs.inner.Known.{next_begins, any_next, ids_with_prefix, early, earlies_from, by_found}
 pub use Rattle.cweb_store.specs.inner.Known.{name_at, names_at, AreKnown, NamesSoFar}
@@ -78,7 +77,7 @@ pub use Rattle.cweb_store.specs.inner.PartRanges.{parts_in, has_string, is_trail
 pub use Rattle.cweb_store.specs.inner.Records.{IsNextNumber, is_name_use, AreRecords, InternsToken, StringIsWithin}
 pub use Rattle.cweb_store.specs.inner.Records.{token_of_record, tokens_of, token_numbers, IsTokenIndex}
 pub use Rattle.cweb_store.specs.inner.Stored.{AreAnswers, HoldsAtMost, AreWithin, flag_of, has_head, followed}
-pub use Rattle.cweb_store.specs.inner.Stored.{AreLinked, replacement_in, replacements_at, stored_in, AreLast, AreStored}
+pub use Rattle.cweb_store.specs.inner.Stored.{AreLinked, replacement_in, replacements_at, AreLast}
 pub use Rattle.cweb_store.specs.inner.Stored.{last_from, is_wanted, wanted_in}
 pub use Rattle.cweb_store.specs.inner.StringLists.{is_known_edge, string_at, AreStoredEdges, IsStoredEdge, is_high}
 pub use Rattle.cweb_store.specs.surface.Tokens.{is_numeric, punctuator_edge, punctuator_edge_by}

@@ -1,5 +1,5 @@
 -- What interning a word does, by where the word is found or added.
-use Rattle.cweb_store.proofs.Common.{◌≡◌, ℕ, ◌∙◌, sym, ap, total, true, false, ◌||◌, List, [], ◌∷◌, ◌++◌, map, length, Some, None, refl, arith, length-append, append-nil, map-append, or_comm, list_any-append, slice_get, bytes_eq, Vec, list_any, lookup, is_eq, nat_cmp, slice_cmp, Global, Entries, AreBytes, FindsString, PushesWord, AreInterned, IsInserted, word_string, have_string, entry_word, StringTableModel, AddsString, InternsWord, has_word, table_model}
+use Rattle.cweb_store.proofs.Common.{◌≡◌, ◌≤◌, ◌+◌, ℕ, Bool, subst, ◌∙◌, sym, ap, total, with_word, text_bytes, true, false, ◌||◌, List, [], ◌∷◌, ◌++◌, map, length, Some, None, refl, arith, length-append, append-nil, map-append, or_comm, list_any-append, slice_get, bytes_eq, Vec, list_any, lookup, is_eq, nat_cmp, slice_cmp, Global, Entries, AreBytes, FindsString, PushesWord, AreInterned, IsInserted, word_string, have_string, entry_word, StringTableModel, AddsString, InternsWord, has_word, table_model}
 use Rattle.cweb_store.specs.declared.words.word.Word.{Word}
 use Rattle.cweb_store.specs.inner.Words.{key_of, AreMapped, InternsSorted, is_word}
 use Rattle.std.proofs.lemmas.Option.{slice_get_within}
@@ -9,6 +9,37 @@ use Rattle.cweb_store.proofs.StringListLemmas.{get-last, get-string}
 use Rattle.cweb_store.proofs.TotalLemmas.{total-append, with-word-any}
 use Rattle.cweb_store.proofs.TableLemmas.{describes-grow, same-strings}
 use Rattle.cweb_store.proofs.MapLemmas.{mapped-grow, find-word, no-word, insert-any, insert-mapped}
+
+-- The strings that interning a word adds: none or one.
+pub record AddsAtMostOne (old : StringTableModel) (word : List ℕ) (new : StringTableModel) : Type 0 where
+  pub more : List (List ℕ)
+  pub grows : new.strings ≡ old.strings ++ more
+  pub bytes : length (text_bytes more) + total length old.words ≡ total length (with_word old.words word)
+  pub few : length more ≤ 1
+
+adds-by : (old new : StringTableModel) (word : List ℕ) (b : Bool) → has_word old word ≡ b
+    → new.strings ≡ (if b then old.strings else old.strings ++ word ∷ []) → AddsAtMostOne old word new
+adds-by old new word true has grows = record {
+  more = [];
+  grows = grows ∙ sym (append-nil old.strings);
+  bytes = omega (arith, ap (λ b. total length (if b then old.words else old.words ++ word ∷ [])) has);
+  few = omega arith;
+}
+adds-by old new word false has grows = record {
+  more = word ∷ [];
+  grows = grows;
+  bytes = omega (
+    arith,
+    ap (λ b. total length (if b then old.words else old.words ++ word ∷ [])) has,
+    total-append length old.words (word ∷ []),
+    length-append word [],
+  );
+  few = omega arith;
+}
+
+pub adds : (old : StringTableModel) (word : List ℕ) (number : ℕ) (new : StringTableModel)
+    → InternsWord old word number new → AddsAtMostOne old word new
+adds old word number new keeps = adds-by old new word (has_word old word) refl keeps.grows
 
 -- a word that is interned already
 pub known : (old : StringTableModel) (word : List ℕ) (number : ℕ) → has_word old word ≡ true
@@ -23,7 +54,11 @@ found-known strings ws es word number found = grind (arith, known, list_any-appe
 pub mapped-known : (strings : List (List ℕ)) (ws : List Word) (es : Entries) (word : List ℕ) (number : ℕ)
     → AreInterned strings ws es → lookup (λ (k : Vec ℕ Global). is_eq (slice_cmp nat_cmp word k.items)) es ≡ Some number
     → InternsWord (table_model strings ws es) word number (table_model strings ws es)
-mapped-known strings ws es word number interned found = grind (arith, find-word, known, list_any-append)
+mapped-known strings ws es word number interned found =
+    let there = find-word strings word es number found interned.in_map in
+    known (table_model strings ws es) word number (list_any-append (bytes_eq word) (map entry_word es)
+    (map (word_string strings) ws)
+    ∙ ap (λ b. b || list_any (bytes_eq word) (map (word_string strings) ws)) there.among) there.stored
 
 -- a word that is neither in the table nor in the map is not interned
 pub not-interned : (strings : List (List ℕ)) (ws : List Word) (es : Entries) (word : List ℕ)
@@ -131,8 +166,7 @@ found-keeps strings ws es more word number among stored put =
     list_any-append (bytes_eq word) (map entry_word es) (map (word_string strings) ws)
     ∙ ap (λ b. b || list_any (bytes_eq word) (map (word_string strings) ws)) among in
     record {
-      more = [];
-      grows = sym (append-nil strings);
+      grows = ap (λ b. if b then strings else strings ++ word ∷ []) (sym has);
       stored = stored;
       words = λ q.
           grind (
@@ -143,8 +177,6 @@ found-keeps strings ws es more word number among stored put =
             with-word-any q old word,
             or-last,
           );
-      bytes = omega (arith, ap (λ b. total length (if b then old else old ++ word ∷ [])) has);
-      few = omega arith;
     }
 
 -- A word that is new in the map and not in the table.
@@ -172,4 +204,17 @@ pub sorted-keeps : (strings new : List (List ℕ)) (ws : List Word) (es more : E
     → AreInterned strings ws es → have_string strings ws word ≡ false
     → InternsSorted strings es word number new more
     → InternsWord (table_model strings ws es) word number (table_model new ws more)
-sorted-keeps strings new ws es more word number interned none put = grind (arith, found-keeps, added-keeps)
+sorted-keeps strings new ws es more word number interned none put =
+    by (list_any (bytes_eq word) (map entry_word es)) refl put.grows
+  where
+    by : (b : Bool) → list_any (bytes_eq word) (map entry_word es) ≡ b
+        → new ≡ (if b then strings else strings ++ word ∷ [])
+        → InternsWord (table_model strings ws es) word number (table_model new ws more)
+    by true among grows = subst (λ (ts : List (List ℕ)).
+        InternsWord (table_model strings ws es) word number (table_model ts ws more)) (sym grows)
+        (found-keeps strings ws es more word number among
+        (subst (λ (ts : List (List ℕ)). slice_get ts number ≡ Some word) grows put.stored) put.inserted)
+    by false absent grows = subst (λ (ts : List (List ℕ)).
+        InternsWord (table_model strings ws es) word number (table_model ts ws more)) (sym grows)
+        (added-keeps strings ws es more word number interned absent none
+        (subst (λ (ts : List (List ℕ)). slice_get ts number ≡ Some word) grows put.stored) put.inserted)

@@ -1,5 +1,5 @@
 -- A name that is a proper prefix of another is a prefix of its successor.
-use Rattle.cweb_store.proofs.Common.{arith, ◌≡◌, ℕ, zero, suc, Bool, true, false, cond, ◌||◌, List, [], ◌∷◌, Some, map, filter, refl, sym, ◌∙◌, ap, nat_eq, bytes_eq, slice_get, starts_with, list_any, AllByRecursion, keys_of, lookup, insert_entry, is_at, is_eq, is_le, ordering_reverse, bytes_decides, nat_list_cmp_total, Less, Greater, is_eq-slice_cmp, NameId, Found, Name, spellings, is_prefix_of_another, NameEntry, compare_bytes, entry_has_prefix, found_of, is_several, next_begins, any_next, id_of_spelling, IsNameMap}
+use Rattle.cweb_store.proofs.Common.{arith, ◌≡◌, ℕ, zero, suc, Bool, true, false, cond, ◌||◌, List, [], ◌∷◌, Some, map, filter, refl, sym, ◌∙◌, ap, nat_eq, bytes_eq, slice_get, starts_with, list_any, AllByRecursion, keys_of, lookup, is_at, is_eq, is_le, ordering_reverse, bytes_decides, nat_list_cmp_total, Less, Greater, is_eq-slice_cmp, NameId, Found, Name, spellings, is_prefix_of_another, NameEntry, compare_bytes, entry_has_prefix, found_of, is_several, next_begins, any_next, id_of_spelling, IsNameMap}
 use Rattle.std.specs.List.Sorted.{IsStrictlySortedBy}
 use Rattle.cweb_store.proofs.PrefixLemmas.{none-begins, begins-le}
 use Rattle.cweb_store.proofs.NameLemmas.{bytes_eq-same, or-false, number-some, number-none}
@@ -141,17 +141,3 @@ next-prefix es ns known sorted =
           let v = number-there n.text ns there in
           sym (longer n.text there) ∙ none-next es sorted is n.text v.0 (known.yields n.text ∙ v.1)))
     ]) refl
-
-pub insert-same : (es : List NameEntry) (k : List ℕ) (v : NameId) → IsStrictlySortedBy compare_bytes (keys_of es)
-    → lookup (is_at (compare_bytes k)) es ≡ Some v → insert_entry compare_bytes es k v ≡ es
-unfolding IsStrictlySortedBy
-insert-same [] k v sorted h = cc
-insert-same (e ∷ es) k v sorted h =
-    grind (
-      arith,
-      compare_bytes k e.0,
-      h,
-      below-found e.0 k v es sorted.0,
-      nat_list_cmp_total.antisymm k e.0,
-      insert-same es k v sorted.1,
-    )

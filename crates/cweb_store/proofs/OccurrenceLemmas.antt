@@ -1,5 +1,5 @@
 -- The names of occurrences, and what they resolve to.
-use Rattle.cweb_store.proofs.Common.{◌≡◌, ℕ, ◌+◌, ◌≤◌, Bool, true, false, cond, not, ◌||◌, List, [], ◌∷◌, ◌++◌, length, refl, sym, ap, arith, length-append, append_assoc, append-nil, Err, bytes_eq, list_any, position_or_len, map-append, How, Full, Prefix, NameId, NeverFull, Occurrence, Name, Resolution, spellings, with_full_name, with_occurrence_name, names_from, names, beginning, the_one, resolved_among, found_of, early, by_found}
+use Rattle.cweb_store.proofs.Common.{◌≡◌, ℕ, ◌+◌, ◌≤◌, Bool, true, false, cond, not, ◌||◌, List, [], ◌∷◌, ◌++◌, length, refl, sym, ap, arith, length-append, append_assoc, append-nil, Err, bytes_eq, list_any, position_or_len, map-append, How, Full, Prefix, NameId, NeverFull, Occurrence, Name, spellings, with_full_name, with_occurrence_name, names_from, names, beginning, the_one, resolved_among, found_of, early, by_found, resolve}
 use Rattle.cweb_store.proofs.NameLemmas.{bytes_eq-same}
 
 with_text-few : (i : ℕ) (ns : List Name) (text : List ℕ) → length (with_full_name i ns text) ≤ length ns + 1
@@ -61,17 +61,21 @@ pub position-grows : (text : List ℕ) (old new : List Name) → Grows old new
     → position_or_len (bytes_eq text) (spellings new) ≡ position_or_len (bytes_eq text) (spellings old)
 position-grows text old new g there = grind (arith, strings-append, position-append, there)
 
-by_found-the_one : (ns : List NameId) (otherwise : Resolution) → by_found (found_of ns) otherwise ≡ the_one ns otherwise
-by_found-the_one (n ∷ []) otherwise = refl
-by_found-the_one _ otherwise = refl
+by_found-the_one : (ns : List NameId) → by_found (found_of ns) ≡ the_one ns (Err NeverFull)
+by_found-the_one [] = refl
+by_found-the_one (n ∷ []) = refl
+by_found-the_one (n ∷ m ∷ ns) = refl
 
-abbrev pub late : List Name → List ℕ → Resolution
-late all text = by_found (found_of (beginning text all)) (Err NeverFull)
+late-one : (ns : List NameId) (all : List Name) (text : List ℕ)
+    → resolve all text (by_found (found_of ns)) ≡ the_one ns (the_one (beginning text all) (Err NeverFull))
+late-one [] all text = by_found-the_one (beginning text all)
+late-one (n ∷ []) all text = refl
+late-one (n ∷ m ∷ ns) all text = refl
 
 pub resolve-one : (i : ℕ) (before : List Name) (os : List Occurrence) (text : List ℕ) (how : How) (is_file : Bool) →
     let o : Occurrence = record { text = text; how = how; is_file = is_file } in
     let all = names_from i before (o ∷ os) in
-    by_found (early before o) (late all text) ≡ resolved_among before all o
+    resolve all text (early before o) ≡ resolved_among before all o
 resolve-one i before os text Full is_file =
     grind (
       arith,
@@ -80,4 +84,6 @@ resolve-one i before os text Full is_file =
       with_text-has i before text,
       with_text-position i before text,
     )
-resolve-one i before os text Prefix is_file = grind (arith, by_found-the_one (beginning text before), late)
+resolve-one i before os text Prefix is_file =
+    let o : Occurrence = record { text = text; how = Prefix; is_file = is_file } in
+    late-one (beginning text before) (names_from i before (o ∷ os)) text

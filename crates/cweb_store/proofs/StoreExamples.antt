@@ -136,8 +136,10 @@ record Computed : Type 0 where
   signs_kept_once : interned_store_bytes
       (stored (Opens Unnamed ∷ Pushes arrow ∷ Pushes x ∷ Pushes (Punct (codes "x")) ∷ Pushes arrow ∷ [])) ≡ 3
   words_given : uninterned_store_bytes (stored three_times) ≡ 3
-  texts_kept_each : interned_store_bytes (stored (Occurs
-      glob ∷ Occurs glob ∷ three_times ++ Pushes (Number (codes "x")) ∷ Pushes (Word (codes "xy")) ∷ replaced)) ≡ 16
+  spellings_kept_once : interned_store_bytes (stored (Occurs glob ∷ Occurs variables ∷ Occurs glob ∷ [])) ≡ 20
+  all_strings : interned_store_bytes (stored (Occurs
+      glob ∷ Occurs glob ∷ three_times ++ Pushes (Number (codes "x")) ∷ Pushes (Word (codes "xy")) ∷ replaced)) ≡ 12
+  spellings_given : uninterned_store_bytes (stored (Occurs glob ∷ Occurs glob ∷ [])) ≡ 8
   uses_are_recorded : token_numbers is_name_use 4 recorded ≡ 5 ∷ 7 ∷ []
   defs_are_recorded : token_numbers is_defs 0 recorded ≡ 2 ∷ []
 

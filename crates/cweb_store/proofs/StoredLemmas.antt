@@ -1,42 +1,6 @@
--- The model of a store, from its tokens, occurrences and names.
-use Rattle.cweb_store.proofs.Common.{Part, ◌≡◌, ℕ, zero, suc, ◌+◌, ◌<◌, List, [], ◌∷◌, ◌++◌, Option, Some, map, length, drop, refl, sym, ◌∙◌, ap, arith, length-append, get_or, slice_get, option_map, length-map, drop-append_seam, OccurrenceForm, Occurrence, Name, with_full_name, with_occurrence_name, names_from, names, Replacement, stored, AreAnswers, occurrence_text, replacement_bytes, occurrence_form, occurrences_at, replacements_at, stored_in, AreLast, AreStored}
-use Rattle.cweb_store.specs.declared.store.answers.Answers.{Answers}
+-- The first occurrence of each name.
+use Rattle.cweb_store.proofs.Common.{◌≡◌, ℕ, zero, suc, ◌+◌, ◌<◌, List, [], ◌∷◌, ◌++◌, Some, map, length, drop, refl, sym, ◌∙◌, ap, arith, get_or, slice_get, option_map, Occurrence, Name, with_full_name, with_occurrence_name, names_from, names}
 use Rattle.cweb_store.proofs.RangeLemmas.{drop-here}
-
-occurrences-back : (os : List Occurrence) (more : List (List ℕ))
-    → occurrences_at (map occurrence_text os ++ more) (map occurrence_form os) ≡ os
-occurrences-back [] more = refl
-occurrences-back (o ∷ os) more = ap (λ rest. o ∷ rest) (occurrences-back os more)
-
-replacements-back : (rs : List Replacement) → replacements_at (map replacement_bytes rs) (map (λ r. r.byte) rs) ≡ rs
-replacements-back [] = refl
-replacements-back (r ∷ rs) = ap (λ rest. r ∷ rest) (replacements-back rs)
-
-replacements-after : (os : List Occurrence) (rs : List Replacement) → replacements_at
-    (drop (length (map occurrence_form os)) (map occurrence_text os ++ map replacement_bytes rs)) (map (λ r. r.byte) rs)
-    ≡ rs
-replacements-after os rs = grind (arith, length-map, drop-append_seam, replacements-back)
-
--- The strings of occurrences, then those of replacements.
-abbrev pub strings_of : List Occurrence → List Replacement → List (List ℕ)
-strings_of os rs = map occurrence_text os ++ map replacement_bytes rs
-
--- The representation has the model of what was added.
-pub stored-is : (ps : List Part) (os : List Occurrence) (rs : List Replacement)
-    → stored_in ps (strings_of os rs) (map occurrence_form os) (map (λ r. r.byte) rs) ≡ stored os ps rs
-stored-is ps os rs = cc (occurrences-back os (map replacement_bytes rs), replacements-after os rs)
-
-pub stored-are : (ps : List Part) (os : List Occurrence) (rs : List Replacement) (last_places : List (Option ℕ))
-    (all : Answers) → AreLast last_places (map (λ r. r.byte) rs) → AreAnswers os ps all
-    → AreStored ps (strings_of os rs) (map occurrence_form os) (map (λ r. r.byte) rs) last_places all
-stored-are ps os rs last_places all last answers = grind (arith, length-append, length-map, occurrences-back)
-
-pub occurrence-text : (ts : List (List ℕ)) (gs : List OccurrenceForm) (k : ℕ) → k < length (occurrences_at ts gs)
-    → option_map (λ (o : Occurrence). o.text) (slice_get (occurrences_at ts gs) k) ≡ slice_get ts k
-occurrence-text ts [] k h = absurd (let none : ⊥ = omega arith in none)
-occurrence-text [] (g ∷ gs) k h = absurd (let none : ⊥ = omega arith in none)
-occurrence-text (t ∷ ts) (g ∷ gs) zero h = refl
-occurrence-text (t ∷ ts) (g ∷ gs) (suc k) h = occurrence-text ts gs k (omega arith)
 
 -- The bytes of a name are those of its first occurrence.
 abbrev FirstYields : List Occurrence → Name → Type 0
@@ -71,7 +35,7 @@ get-within [] k t h = cc
 get-within (o ∷ os) zero t h = omega arith
 get-within (o ∷ os) (suc k) t h = omega (arith, get-within os k t h)
 
-record IsFirst (os : List Occurrence) (ns : List Name) (n k : ℕ) : Type 0 where
+pub record IsFirst (os : List Occurrence) (ns : List Name) (n k : ℕ) : Type 0 where
   pub within : k < length os
   pub same : option_map (λ (m : Name). m.text) (slice_get ns n)
       ≡ option_map (λ (o : Occurrence). o.text) (slice_get os k)
@@ -85,13 +49,6 @@ first-at os (m ∷ ns) zero k forms h is =
     record { within = get-within os k m.text yields; same = sym yields }
 first-at os (m ∷ ns) (suc n) k forms h is = grind (arith, first-at os ns n k forms.1 (omega arith) is)
 
-first-place : (os : List Occurrence) (n k : ℕ) → n < length (names os)
+pub first-place : (os : List Occurrence) (n k : ℕ) → n < length (names os)
     → k ≡ get_or (map (λ (m : Name). m.first) (names os)) n k → IsFirst os (names os) n k
 first-place os n k h is = first-at os (names os) n k (firsts-from os os 0 [] refl tt) h is
-
--- The string of a name is that of its first occurrence.
-pub first-string : (ts : List (List ℕ)) (gs : List OccurrenceForm) (n k : ℕ) → n < length (names (occurrences_at ts gs))
-    → k ≡ get_or (map (λ (m : Name). m.first) (names (occurrences_at ts gs))) n k
-    → (k < length (occurrences_at ts gs))
-    × (option_map (λ (m : Name). m.text) (slice_get (names (occurrences_at ts gs)) n) ≡ slice_get ts k)
-first-string ts gs n k less is = grind (arith, first-place, less, occurrence-text)

@@ -25,7 +25,7 @@ pub all-before : (bytes x : List ℕ) (ts : List (List ℕ)) → AreSpansOf byte
 all-before bytes x [] h = tt
 all-before bytes x (t ∷ ts) h = (stored-before bytes x t h.0, all-before bytes x ts h.1)
 
-string-stored : (ts : List (List ℕ)) (n : ℕ) → n < length ts → IsSpanOf (text_bytes ts) (string_at ts n)
+pub string-stored : (ts : List (List ℕ)) (n : ℕ) → n < length ts → IsSpanOf (text_bytes ts) (string_at ts n)
 string-stored [] n h = absurd (let none : ⊥ = omega arith in none)
 string-stored (t ∷ ts) zero h = ([], text_bytes ts, refl)
 string-stored (t ∷ ts) (suc n) h = stored-after t (text_bytes ts) (string_at ts n) (string-stored ts n (omega arith))

@@ -12,33 +12,33 @@ ghost use Rattle.cweb_store.specs.inner.Stored.{has_head, AreWithin, flag_of};
 
 use crate::known::KnownNames;
 use crate::name::{NameFault, NameId, NameKind, NameRef};
+use crate::occurrences::Occurrences;
 use crate::parts::closed::ClosedParts;
 use crate::parts::iter::Wanted;
 use crate::parts::links::Heads;
-use crate::table::NameTable;
 use indexmap::IndexSet;
 use std::alloc::{AllocError, Global};
 
 /// All faults of names, in the order of their reports, and for each name the number of its first full occurrence.
 pub fn name_faults(
     alloc: Global,
-    table: &NameTable,
+    occurrences: &Occurrences,
     parts: &ClosedParts,
     names: KnownNames<'_>,
     resolutions: &[Result<NameId, NameKind>],
     files: &IndexSet<NameId>,
     heads: &Heads,
 ) -> Result<(Vec<NameFault>, Vec<u32>), AllocError>
-    requires named { names.names ≡ spec.names table.now }
+    requires named { names.names ≡ spec.names occurrences.now }
     requires few_names { length names.names < 2 ^ 32 }
-    requires settled { resolutions.now ≡ spec.resolutions table.now }
-    requires files { files.now.keys ≡ spec.files table.now }
+    requires settled { resolutions.now ≡ spec.resolutions occurrences.now }
+    requires files { files.now.keys ≡ spec.files occurrences.now }
     requires few { length resolutions.now < 2 ^ 32 }
-    requires known { AreWithin resolutions.now (length (spec.names table.now)) }
+    requires known { AreWithin resolutions.now (length (spec.names occurrences.now)) }
     requires some { (n : NameId) → has_head heads.now n
         ≡ fault_specs.has_part resolutions.now parts.now n }
-    ensures found { IfOk result (λ all. all.0.items ≡ fault_specs.faults table.now parts.now) }
-    ensures firsts { IfOk result (λ all. all.1.items ≡ map (λ n. n.first) (spec.names table.now)) }
+    ensures found { IfOk result (λ all. all.0.items ≡ fault_specs.faults occurrences.now parts.now) }
+    ensures firsts { IfOk result (λ all. all.1.items ≡ map (λ n. n.first) (spec.names occurrences.now)) }
 {
     let mut faults = Vec::new(alloc);
     add_unresolved_faults(&mut faults, resolutions)?;

@@ -1,13 +1,11 @@
 // The names that begin with a prefix, in a sorted map.
-ghost use Rattle.std.specs.Prelude.{◌≡◌, unwrap_or, IfOk, OnErr};
-ghost use Rattle.std.specs.BTreeMap.{insert_entry, is_at, keys};
+ghost use Rattle.std.specs.Prelude.{◌≡◌};
+ghost use Rattle.std.specs.BTreeMap.{keys};
 ghost use Rattle.std.specs.List.Sorted.{IsStrictlySortedBy};
-ghost use Rattle.std.specs.Map.{lookup};
 ghost use Rattle.cweb_store.specs.inner.Known.{any_next, found_of, ids_with_prefix, compare_bytes};
 
-use crate::name::NameId;
+use crate::name::{NameId, NameKind};
 use crate::sorted::SortKey;
-use std::alloc::AllocError;
 use std::collections::BTreeMap;
 
 /// The names that fit: none, one or several.
@@ -19,7 +17,18 @@ pub enum Found {
 }
 
 impl Found {
-    ghost use Rattle.cweb_store.specs.inner.Known.{is_several};
+    ghost use Rattle.cweb_store.specs.inner.Known.{by_found, is_several};
+
+    /// What an occurrence resolves to that fits these names.
+    pub fn resolution(self) -> Result<NameId, NameKind>
+        ensures { result ≡ by_found self }
+    {
+        match self {
+            Found::Nothing => Err(NameKind::NeverFull),
+            Found::One(id) => Ok(id),
+            Found::Several => Err(NameKind::Ambiguous),
+        }
+    }
 
     /// Whether several names fit.
     pub fn is_several(self) -> bool
@@ -51,23 +60,6 @@ pub fn find_one<'a>(sorted: &BTreeMap<SortKey<'a>, NameId>, prefix: &'a [u8]) ->
     } else {
         Found::One(*id)
     }
-}
-
-/// The number of a spelling. A new spelling gets the number `next`. If memory is refused, nothing changes.
-pub fn number_in<'a>(
-    sorted: &mut BTreeMap<SortKey<'a>, NameId>,
-    spelling: SortKey<'a>,
-    next: NameId,
-) -> Result<NameId, AllocError>
-    ensures number { IfOk result (λ id.
-        id ≡ unwrap_or (lookup (is_at (compare_bytes spelling.entry)) sorted.old.entries) next) }
-    ensures entries { IfOk result (λ id.
-        sorted.new.entries ≡ insert_entry compare_bytes sorted.old.entries spelling.entry id) }
-    ensures err { OnErr result (sorted.new.entries ≡ sorted.old.entries) }
-    ensures ordered { IsStrictlySortedBy compare_bytes (keys sorted.old) }
-{
-    let id = *sorted.entry(spelling)?.or_insert(next);
-    Ok(id)
 }
 
 /// Whether any spelling in the map has its predecessor as a prefix.

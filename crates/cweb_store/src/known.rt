@@ -1,49 +1,56 @@
 // The names that are given in full.
-ghost use Rattle.std.specs.Prelude.{false, ◌≡◌, ◌<◌, ◌^◌, map, length, slice_get, option_map, Some, IfOk, OnOk};
-ghost use Rattle.std.specs.List.{list_any};
-ghost use Rattle.cweb_store.specs.Names.{beginning, is_prefix_of_another, spellings, with_occurrence_name};
-ghost use Rattle.cweb_store.specs.surface.Tokens.{occurrence_of};
-ghost use Rattle.cweb_store.specs.inner.Known.{found_of, IsNumbered, early, no_names};
+ghost use Rattle.std.specs.Prelude.{◌≡◌, ◌<◌, map, length, slice_get, option_map, Some, IfOk, OnOk, bytes_eq};
+ghost use Rattle.std.specs.List.{list_any, position_or_len};
+ghost use Rattle.cweb_store.specs.Names.{Occurrence, beginning, is_prefix_of_another, spellings};
+ghost use Rattle.cweb_store.specs.Names.{with_full_name, with_occurrence_name};
+ghost use Rattle.cweb_store.specs.surface.Tokens.{occurrence_text};
+ghost use Rattle.cweb_store.specs.inner.Known.{found_of, early, no_names, numbered};
 ghost use Rattle.cweb_store.specs.inner.StringLists.{string_at};
 
-use crate::found::{Found, find_one, has_prefix, number_in};
-use crate::name::{How, NameId};
-use crate::slices::StringSlices;
+use crate::found::{Found, find_one, has_prefix};
+use crate::name::{NameId, NameKind};
+use crate::occurrences::Occurrences;
 use crate::sorted::SortKey;
 use std::alloc::{AllocError, Global};
 use std::collections::BTreeMap;
 use std::marker::Model;
 
-/// The names that are given in full among occurrences, numbered in this order. A sorted map finds a name, and the names
-/// with a prefix. No text is copied.
+/// The names that are given in full among occurrences, numbered in this order. A sorted map finds the names with a prefix.
+/// No text is copied.
 #[derive(Drop)]
 pub struct KnownNames<'a> {
-    // the spellings of all occurrences
-    strings: StringSlices<'a>,
+    occurrences: &'a Occurrences,
     // for each name the number of the occurrence that first gave it in full
     firsts: Vec<u32>,
     sorted: BTreeMap<SortKey<'a>, NameId>,
 }
 
 impl<'a> Model for KnownNames<'a> {
+    ghost use Rattle.std.specs.Prelude.{map};
+    ghost use Rattle.cweb_store.specs.surface.Tokens.{occurrence_text};
     ghost use Rattle.cweb_store.specs.inner.Known.{NamesSoFar};
 
     ghost Value = { NamesSoFar };
 
     ghost use Rattle.cweb_store.specs.inner.Known.{AreKnown, names_at};
 
-    ghost view = { λ s. record { strings = s.strings; names = names_at s.strings s.firsts.items } };
+    ghost view = { λ s.
+        record {
+          strings = map occurrence_text s.occurrences.now;
+          names = names_at (map occurrence_text s.occurrences.now) s.firsts.items;
+        } };
 
-    ghost invariant = { λ s. AreKnown s.strings s.firsts.items s.sorted.entries };
+    ghost invariant = { λ s.
+        AreKnown (map occurrence_text s.occurrences.now) s.firsts.items s.sorted.entries };
 }
 
 impl<'a> KnownNames<'a> {
-    /// No names, for occurrences with these spellings.
-    pub(crate) fn new(alloc: Global, strings: StringSlices<'a>) -> KnownNames<'a>
-        ensures { result ≡ no_names strings.entry }
+    /// No names.
+    pub(crate) fn new(alloc: Global, occurrences: &'a Occurrences) -> KnownNames<'a>
+        ensures { result ≡ no_names (map occurrence_text occurrences.now) }
     {
         KnownNames {
-            strings,
+            occurrences,
             firsts: Vec::new(alloc),
             sorted: BTreeMap::new(alloc),
         }
@@ -56,40 +63,49 @@ impl<'a> KnownNames<'a> {
         self.firsts.len()
     }
 
-    /// Adds the name of an occurrence, if in full. Returns which names fit so far.
-    pub(crate) fn take(&mut self, number: u32, how: How) -> Result<Found, AllocError>
+    /// Adds the name of an occurrence that is resolved to its number, and resolves any other among the names so far.
+    pub(crate) fn take(
+        &mut self,
+        number: u32,
+        resolution: Result<NameId, NameKind>,
+    ) -> Result<Result<NameId, NameKind>, AllocError>
         requires within { number < length self.old.strings }
-        requires few { length self.old.names < 2 ^ 32 }
-        ensures found { IfOk result (λ found. found ≡ early self.old.names
-            (occurrence_of (string_at self.old.strings number) how false)) }
-        ensures names { OnOk result (self.new.names ≡ with_occurrence_name number self.old.names
-            (occurrence_of (string_at self.old.strings number) how false)) }
+        requires numbered { IfOk resolution (λ id. id.0 ≡ position_or_len
+            (bytes_eq (string_at self.old.strings number)) (spellings self.old.names)) }
+        ensures early { (o : Occurrence) → o.text ≡ string_at self.old.strings number
+            → resolution ≡ numbered self.old.names o
+            → IfOk result (λ found. found ≡ early self.old.names o) }
+        ensures names { (o : Occurrence) → o.text ≡ string_at self.old.strings number
+            → resolution ≡ numbered self.old.names o
+            → OnOk result (self.new.names ≡ with_occurrence_name number self.old.names o) }
         ensures strings { OnOk result (self.new.strings ≡ self.old.strings) }
     {
-        match how {
-            How::Full => {
-                let text = self.strings.string(number as usize);
-                Ok(Found::One(self.add(text, number)?))
+        match resolution {
+            Ok(id) => {
+                self.add(number, id)?;
+                Ok(Ok(id))
             }
-            How::Prefix => Ok(self.find(number)),
+            Err(_) => Ok(self.find(number).resolution()),
         }
     }
 
-    // The number of the name with this spelling, that of occurrence `first`. The name is added if new.
-    fn add(&mut self, text: &'a [u8], first: u32) -> Result<NameId, AllocError>
-        requires few { length self.old.names < 2 ^ 32 }
-        requires spelled { slice_get self.old.strings first ≡ Some text.now }
-        ensures { IfOk result (λ id. IsNumbered self.old text.now first id self.new) }
+    // Adds the name that occurrence `first` gives in full, unless its number is that of a known name.
+    fn add(&mut self, first: u32, id: NameId) -> Result<(), AllocError>
+        requires within { first < length self.old.strings }
+        requires number { id.0 ≡ position_or_len (bytes_eq (string_at self.old.strings first))
+            (spellings self.old.names) }
+        ensures names { OnOk result (self.new.names
+            ≡ with_full_name first self.old.names (string_at self.old.strings first)) }
+        ensures strings { OnOk result (self.new.strings ≡ self.old.strings) }
     {
-        let next = NameId(self.firsts.len() as u32);
-        self.firsts.reserve(1)?;
-        let key = SortKey::new(text);
-        let id = number_in(&mut self.sorted, key, next)?;
-        if id.0 != next.0 {
-            return Ok(id);
+        if (id.0 as usize) < self.firsts.len() {
+            return Ok(());
         }
+        self.firsts.reserve(1)?;
+        let spelling = self.occurrences.text(first as usize);
+        self.sorted.insert(SortKey::new(spelling), id)?;
         self.firsts.push_reserved(first);
-        Ok(id)
+        Ok(())
     }
 
     /// The names that begin with the spelling of an occurrence: none, one or several.
@@ -98,7 +114,7 @@ impl<'a> KnownNames<'a> {
         ensures { result
             ≡ found_of (beginning (string_at self.now.strings number) self.now.names) }
     {
-        find_one(&self.sorted, self.strings.string(number as usize))
+        find_one(&self.sorted, self.occurrences.text(number as usize))
     }
 
     /// The number of the occurrence that first gave a name in full.

@@ -25,7 +25,9 @@ mod found;
 mod known;
 // the name that an occurrence resolves to
 mod resolution;
-// the occurrences of names
+// finished occurrences of names
+mod occurrences;
+// the occurrences of names, while they are added
 mod table;
 
 // tokens of parts

@@ -1,6 +1,7 @@
 // Transliterations of bytes in printed Words.
-ghost use Rattle.std.specs.Prelude.{◌≡◌, ◌++◌, ◌∷◌, [], map, IfOk, OnOk, OnErr};
-ghost use Rattle.cweb_store.specs.surface.Tokens.{replacement_of, replacement_bytes};
+ghost use Rattle.std.specs.Prelude.{◌≡◌, ◌<◌, ◌^◌, ◌++◌, ◌∷◌, [], length, map, option_map, IfOk, OnOk, OnErr};
+ghost use Rattle.cweb_store.specs.Calls.{replacement};
+ghost use Rattle.cweb_store.specs.surface.Tokens.{replacement_of, replacement_bytes, AreInOneList, total};
 ghost use Rattle.cweb_store.specs.inner.Stored.{AreLast};
 
 use crate::strings::StringList;
@@ -52,23 +53,68 @@ impl Replacements {
         Ok(())
     }
 
-    /// Appends the replacements to strings, and returns the replaced bytes.
-    pub fn close(self, strings: &mut StringList) -> Result<Vec<u8>, AllocError>
-        ensures bytes { IfOk result (λ bytes. bytes.items ≡ map (λ r. r.byte) self) }
-        ensures strings { OnOk result
-            (strings.new ≡ strings.old ++ map replacement_bytes self) }
+    /// The finished replacements, with a table of the last one for each byte.
+    pub fn close(self) -> Result<ReplacementTable, AllocError>
+        ensures { IfOk result (λ table. table ≡ self) }
     {
+        let mut strings = StringList::new(self.alloc);
         let mut bytes = Vec::with_capacity(self.alloc, self.entries.len())?;
         for replaced in &self.entries {
             strings.add(replaced.text.as_slice())?;
             bytes.push(replaced.byte)?;
         }
-        Ok(bytes)
+        let last_places = last_places(self.alloc, bytes.as_slice())?;
+        Ok(ReplacementTable {
+            strings,
+            bytes,
+            last_places,
+        })
     }
 }
 
-/// For each byte, the index of its last occurrence. The table is on the heap because a store is moved several times.
-pub(crate) fn last_places(alloc: Global, bytes: &[u8]) -> Result<Vec<Option<usize>>, AllocError>
+/// Finished replacements. The last one of each byte is found at once.
+#[derive(Drop)]
+pub struct ReplacementTable {
+    strings: StringList,
+    bytes: Vec<u8>,
+    last_places: Vec<Option<usize>>,
+}
+
+impl Model for ReplacementTable {
+    ghost use Rattle.std.specs.Prelude.{List};
+    ghost use Rattle.cweb_store.specs.Calls.{Replacement};
+    ghost use Rattle.cweb_store.specs.inner.Stored.{replacements_at, IsReplacementTable};
+
+    ghost Value = { List Replacement };
+
+    ghost view = { λ s. replacements_at s.strings s.bytes.items };
+
+    ghost invariant = { λ s. IsReplacementTable s.strings s.bytes.items s.last_places.items };
+}
+
+impl ReplacementTable {
+    /// The replacement of a byte: the last one, if any.
+    pub fn last(&self, byte: u8) -> Option<&[u8]>
+        ensures { option_map (λ text. text.now) result ≡ replacement self.now byte }
+    {
+        let Some(number) = self.last_places[byte as usize] else {
+            return None;
+        };
+        Some(self.strings.string(number))
+    }
+
+    /// The number of bytes of all replacements.
+    pub fn text_bytes(&self) -> usize
+        ensures strings { AreInOneList result (map replacement_bytes self.now) }
+        ensures bytes { result ≡ total length (map replacement_bytes self.now) }
+        ensures few { result < 2 ^ 63 }
+    {
+        self.strings.text_bytes()
+    }
+}
+
+// For each byte, the index of its last occurrence. The table is on the heap because a store is moved several times.
+fn last_places(alloc: Global, bytes: &[u8]) -> Result<Vec<Option<usize>>, AllocError>
     ensures { IfOk result (λ places. AreLast places.items bytes.now) }
 {
     let mut places = Vec::from_array(alloc, [None; 256])?;

@@ -1,13 +1,11 @@
 // The names that occurrences resolve to.
-ghost use Rattle.std.specs.Prelude.{◌≡◌, ◌<◌, ◌^◌, length, IfOk};
+ghost use Rattle.std.specs.Prelude.{◌≡◌, ◌<◌, ◌^◌, length};
 ghost use Rattle.cweb_store.specs.Names.{resolved_at};
 ghost use Rattle.cweb_store.specs.inner.Known.{resolve, resolve_all};
 ghost use Rattle.cweb_store.specs.inner.StringLists.{string_at};
 
-use crate::found::Found;
 use crate::known::KnownNames;
 use crate::name::{NameId, NameKind};
-use std::alloc::{AllocError, Global};
 
 /// What occurrences resolve to, in order: each one to a name or to its fault.
 pub type Resolutions = Vec<Result<NameId, NameKind>>;
@@ -22,36 +20,28 @@ pub fn resolved_at(resolutions: &[Result<NameId, NameKind>], occurrence: usize) 
     }
 }
 
-/// What occurrences resolve to among all names. `found`, the names up to each one, takes precedence.
-pub fn resolve_all(
-    alloc: Global,
-    names: &KnownNames<'_>,
-    found: &[Found],
-) -> Result<Resolutions, AllocError>
-    requires count { length names.now.strings ≡ length found.now }
-    requires few { length found.now < 2 ^ 32 }
-    ensures { IfOk result
-        (λ all. all.items ≡ resolve_all names.now.names names.now.strings found.now) }
+/// Resolves the abbreviations that no name before them fits, among all names.
+pub fn resolve_all(names: &KnownNames<'_>, all: &mut Resolutions)
+    requires count { length names.now.strings ≡ length all.old.items }
+    requires few { length all.old.items < 2 ^ 32 }
+    ensures { all.new.items ≡ resolve_all names.now.names names.now.strings all.old.items }
 {
-    let mut all = Vec::with_capacity(alloc, found.len())?;
-    for (i, fits) in found.iter().enumerate() {
-        all.push(resolve(names, i as u32, *fits))?;
+    for i in 0..all.len() {
+        all[i] = resolve(names, i as u32, all[i]);
     }
-    Ok(all)
 }
 
-// The name that an occurrence resolves to among all names. `found`, the names up to it, takes precedence.
-fn resolve(names: &KnownNames<'_>, occurrence: u32, found: Found) -> Result<NameId, NameKind>
+// The resolution of an occurrence among all names. `early`, its resolution among the names up to it, takes precedence.
+fn resolve(
+    names: &KnownNames<'_>,
+    occurrence: u32,
+    early: Result<NameId, NameKind>,
+) -> Result<NameId, NameKind>
     requires { occurrence < length names.now.strings }
-    ensures { result ≡ resolve names.now.names (string_at names.now.strings occurrence) found }
+    ensures { result ≡ resolve names.now.names (string_at names.now.strings occurrence) early }
 {
-    let found = match found {
-        Found::Nothing => names.find(occurrence),
-        found => found,
-    };
-    match found {
-        Found::Nothing => Err(NameKind::NeverFull),
-        Found::One(id) => Ok(id),
-        Found::Several => Err(NameKind::Ambiguous),
+    match early {
+        Err(NameKind::NeverFull) => names.find(occurrence).resolution(),
+        _ => early,
     }
 }

@@ -11,13 +11,14 @@ ghost use Rattle.cweb_store.specs.Calls.{replacement, stored};
 ghost use Rattle.cweb_store.specs.surface.Tokens.{too_many, AreInOneList, uninterned_store_bytes, interned_store_bytes};
 ghost use Rattle.cweb_store.specs.surface.Tokens.{stored_strings};
 ghost use Rattle.cweb_store.specs.inner.Records.{IsNextNumber, is_name_use};
+ghost use Rattle.cweb_store.specs.inner.Stored.{HoldsBytes};
 
+use crate::occurrences::Occurrences;
 use crate::parts::closed::ClosedParts;
-use crate::replacements::{Replacements, last_places};
+use crate::replacements::{ReplacementTable, Replacements};
 use crate::resolution::resolved_at;
 use crate::store::answers::Answers;
-use crate::strings::StringList;
-use crate::table::{NameTable, OccurrenceForm};
+use crate::table::NameTable;
 use crate::{NameFault, NameId, NameRef, Part, Token};
 use std::alloc::{AllocError, Global};
 use std::marker::Model;
@@ -25,23 +26,20 @@ use std::marker::Model;
 /// A finished web: the resolution of each occurrence, the parts of each name, and the faults.
 pub struct Store {
     parts: ClosedParts,
-    // the strings of the occurrences, then those of the replacements
-    strings: StringList,
-    forms: Vec<OccurrenceForm>,
-    replaced: Vec<u8>,
-    last_places: Vec<Option<usize>>,
+    occurrences: Occurrences,
+    replacements: ReplacementTable,
     answers: Answers,
+    text_bytes: u64,
 }
 
 impl Drop for Store {
     fn drop(self) {
         let Self {
             parts: _,
-            strings: _,
-            forms: _,
-            replaced: _,
-            last_places: _,
+            occurrences: _,
+            replacements: _,
             answers: _,
+            text_bytes: _,
         } = self;
     }
 }
@@ -51,13 +49,13 @@ impl Model for Store {
 
     ghost Value = { Stored };
 
-    ghost use Rattle.cweb_store.specs.inner.Stored.{stored_in, AreStored};
+    ghost use Rattle.cweb_store.specs.Calls.{stored};
+    ghost use Rattle.cweb_store.specs.inner.Stored.{IsStore};
 
-    ghost view = { λ s.
-        stored_in s.parts s.strings s.forms.items s.replaced.items };
+    ghost view = { λ s. stored s.occurrences s.parts s.replacements };
 
     ghost invariant = { λ s.
-        AreStored s.parts s.strings s.forms.items s.replaced.items s.last_places.items s.answers };
+        IsStore (stored s.occurrences s.parts s.replacements) s.answers s.text_bytes };
 }
 
 impl Store {
@@ -71,17 +69,18 @@ impl Store {
     ) -> Result<Store, AllocError>
         ensures { IfOk result (λ store. store ≡ stored table parts replacements) }
     {
-        let answers = Answers::of(alloc, &table, &parts)?;
-        let (mut strings, forms) = table.close();
-        let replaced = replacements.close(&mut strings)?;
-        let last_places = last_places(alloc, replaced.as_slice())?;
+        let occurrences = table.close();
+        let answers = Answers::of(alloc, &occurrences, &parts)?;
+        let replacements = replacements.close()?;
+        let Some(text_bytes) = text_bytes(&parts, &occurrences, &replacements) else {
+            return Err(AllocError);
+        };
         Ok(Store {
             parts,
-            strings,
-            forms,
-            replaced,
-            last_places,
+            occurrences,
+            replacements,
             answers,
+            text_bytes,
         })
     }
 
@@ -132,7 +131,7 @@ impl Store {
             ≡ Some result.now }
     {
         let first = self.answers.firsts[name.0 as usize];
-        self.strings.string(first as usize)
+        self.occurrences.text(first as usize)
     }
 
     /// The bytes of an occurrence. For an abbreviation, these are its prefix without the dots.
@@ -141,7 +140,7 @@ impl Store {
         ensures { option_map (λ o. o.text) (slice_get self.now.occurrences name.0)
             ≡ Some result.now }
     {
-        self.strings.string(name.0 as usize)
+        self.occurrences.text(name.0 as usize)
     }
 
     /// The file names, ordered by their first occurrence as a file's.
@@ -163,10 +162,7 @@ impl Store {
     pub fn replacement(&self, byte: u8) -> Option<&[u8]>
         ensures { option_map (λ text. text.now) result ≡ replacement self.now.replacements byte }
     {
-        let Some(number) = self.last_places[byte as usize] else {
-            return None;
-        };
-        Some(self.strings.string_after(self.forms.len(), number))
+        self.replacements.last(byte)
     }
 
     /// The faults of names, in the order of their reports.
@@ -179,12 +175,25 @@ impl Store {
     }
 
     /// The number of bytes of all strings: of tokens, occurrences and replacements. Equal Words, Numbers and
-    /// punctuators are stored once.
+    /// punctuators are stored once, and so are equal spellings.
     pub fn text_bytes(&self) -> u64
         ensures strings { AreInOneList result (stored_strings self.now) }
         ensures once { result ≡ interned_store_bytes self.now }
         ensures few { result ≤ uninterned_store_bytes self.now }
     {
-        self.parts.tokens().text_bytes() as u64 + self.strings.text_bytes() as u64
+        self.text_bytes
     }
+}
+
+// The number of bytes of all strings, if it fits 64 bits. It always does, since all are in memory.
+fn text_bytes(
+    parts: &ClosedParts,
+    occurrences: &Occurrences,
+    replacements: &ReplacementTable,
+) -> Option<u64>
+    ensures { IfSome result
+        (λ n. HoldsBytes n (stored occurrences.now parts.now replacements.now)) }
+{
+    let names = occurrences.text_bytes() as u64 + replacements.text_bytes() as u64;
+    names.checked_add(parts.tokens().text_bytes() as u64)
 }

@@ -108,16 +108,6 @@ impl StringList {
         self.slices().string(number)
     }
 
-    /// The string `number` places after the string `first`.
-    pub fn string_after(&self, first: usize, number: usize) -> &[u8]
-        requires { first + number < length self.now }
-        ensures { slice_get self.now (first + number) ≡ Some result.now }
-    {
-        // the count bounds `first + number`
-        let _count = self.len();
-        self.string(first + number)
-    }
-
     /// The number of bytes of all strings.
     pub fn text_bytes(&self) -> usize
         ensures bytes { result ≡ length (text_bytes self.now) }

@@ -1,19 +1,21 @@
 -- The names so far, those that begin with a prefix, and what occurrences resolve to.
 use Rattle.std.specs.Prelude.{◌≡◌, ℕ, Bool, true, false, List, [], ◌∷◌, ◌+◌, Option, Some, None, map, filter, nat_eq}
 use Rattle.std.specs.Prelude.{bytes_eq, ◌||◌, if◌then◌else◌, ◌<◌, length, Ok, Err, fold}
-use Rattle.std.specs.List.{starts_with, AllByRecursion, position_or_len, enumerate_from}
+use Rattle.std.specs.List.{starts_with, AllByRecursion, list_any, position_or_len, enumerate_from}
 use Rattle.std.specs.Map.{lookup}
 use Rattle.std.specs.Ordering.{is_eq, nat_cmp}
 use Rattle.std.specs.Cmp.Lexicographic.{slice_cmp}
 use Rattle.std.specs.declared.cmp.Ordering.{Ordering}
-use Rattle.cweb_store.specs.Names.{NameId, Name, id, spellings, beginning, Occurrence, Resolution, with_full_name}
+use Rattle.cweb_store.specs.Names.{NameId, Name, id, spellings, beginning, Occurrence, Resolution}
 use Rattle.cweb_store.specs.Names.{with_occurrence_name, with_file, Full, Prefix, Ambiguous, NeverFull}
 use Rattle.cweb_store.specs.declared.found.Found.{Found}
 use Rattle.cweb_store.specs.declared.found.Found.TheVariants.{Nothing, One, Several}
 use Rattle.cweb_store.specs.laws.Laws.{Distinct}
 use Rattle.cweb_store.specs.inner.StringLists.{string_at}
-use Rattle.cweb_store.specs.declared.table.OccurrenceForm.{OccurrenceForm}
-use Rattle.cweb_store.specs.surface.Tokens.{occurrence_of, too_many}
+use Rattle.cweb_store.specs.declared.occurrences.OccurrenceRecord.{OccurrenceRecord}
+use Rattle.cweb_store.specs.surface.Tokens.{occurrence_of, occurrence_text, too_many, distinct_strings}
+use Rattle.cweb_store.specs.inner.StringTables.{StringTableModel, has_word}
+use Rattle.indexmap.specs.IndexSet.{insert_key}
 
 -- Whether these are no names, one or several.
 abbrev pub found_of : List NameId → Found
@@ -79,53 +81,73 @@ pub record AreKnown (strings : List (List ℕ)) (firsts : List ℕ) (es : List N
   pub sorted : IsNameMap es (names_at strings firsts)
   pub within : AllByRecursion (λ (first : ℕ). first < length strings) firsts
 
--- A name that occurrence `first` gives in full has this number. It is added if new.
-pub record IsNumbered (before : NamesSoFar) (text : List ℕ) (first : ℕ) (name : NameId) (after : NamesSoFar)
-    : Type 0 where
-  pub number : name.0 ≡ position_or_len (bytes_eq text) (spellings before.names)
-  pub names : after.names ≡ with_full_name first before.names text
-  pub strings : after.strings ≡ before.strings
-
--- The names that an occurrence fits among those before it and its own.
-abbrev pub early : List Name → Occurrence → Found
-early before o = elim o.how [
-  | Full ↦ One (id (position_or_len (bytes_eq o.text) (spellings before)))
-  | Prefix ↦ found_of (beginning o.text before)
+-- The number of a full name among those before it and its own. An abbreviation is not resolved.
+abbrev pub numbered : List Name → Occurrence → Resolution
+numbered before o = elim o.how [
+  | Full ↦ Ok (id (position_or_len (bytes_eq o.text) (spellings before)))
+  | Prefix ↦ Err NeverFull
 ]
 
-abbrev pub earlies_from : ℕ → List Name → List Occurrence → List Found
+-- The same for occurrences from number `i` on.
+abbrev pub numbered_from : ℕ → List Name → List Occurrence → List Resolution
+numbered_from i before [] = []
+numbered_from i before (o ∷ os) = numbered before o ∷ numbered_from (i + 1) (with_occurrence_name i before o) os
+
+-- What an occurrence resolves to that fits these names.
+abbrev pub by_found : Found → Resolution
+by_found Nothing = Err NeverFull
+by_found (One n) = Ok n
+by_found Several = Err Ambiguous
+
+-- What an occurrence resolves to among the names before it and its own.
+abbrev pub early : List Name → Occurrence → Resolution
+early before o = elim o.how [
+  | Full ↦ Ok (id (position_or_len (bytes_eq o.text) (spellings before)))
+  | Prefix ↦ by_found (found_of (beginning o.text before))
+]
+
+abbrev pub earlies_from : ℕ → List Name → List Occurrence → List Resolution
 earlies_from i before [] = []
 earlies_from i before (o ∷ os) = early before o ∷ earlies_from (i + 1) (with_occurrence_name i before o) os
-
-abbrev pub by_found : Found → Resolution → Resolution
-by_found Nothing otherwise = otherwise
-by_found (One n) otherwise = Ok n
-by_found Several otherwise = Err Ambiguous
 
 -- Appends the names of files from occurrence `i` on.
 abbrev pub files_from : List Resolution → List NameId → ℕ → List Occurrence → List NameId
 files_from rs files i os =
     fold (λ files (o : ℕ × Occurrence). with_file rs files o.0 o.1) files (enumerate_from i os)
 
--- The form of an occurrence in a table.
-abbrev pub occurrence_form : Occurrence → OccurrenceForm
-occurrence_form o = record { how = o.how; is_file = o.is_file }
+abbrev pub occurrence_at : List (List ℕ) → OccurrenceRecord → Occurrence
+occurrence_at strings r = occurrence_of (string_at strings r.spelling) r.how r.is_file
 
-abbrev pub occurrences_at : List (List ℕ) → List OccurrenceForm → List Occurrence
-occurrences_at strings [] = []
-occurrences_at [] (g ∷ gs) = []
-occurrences_at (t ∷ ts) (g ∷ gs) = occurrence_of t g.how g.is_file ∷ occurrences_at ts gs
+abbrev pub occurrences_at : List (List ℕ) → List OccurrenceRecord → List Occurrence
+occurrences_at strings records = map (occurrence_at strings) records
 
--- Each occurrence has a spelling and a form.
-pub record IsOccurrenceTable (strings : List (List ℕ)) (forms : List OccurrenceForm) : Type 0 where
-  pub count : length strings ≡ length forms
-  pub few : length forms < too_many
+-- The strings are the spellings of the occurrences, each once.
+pub record IsOccurrenceTable (strings : List (List ℕ)) (records : List OccurrenceRecord) : Type 0 where
+  pub once : strings ≡ distinct_strings (map occurrence_text (occurrences_at strings records))
+  pub within : AllByRecursion (λ (r : OccurrenceRecord). r.spelling < length strings) records
+  pub few : length records < too_many
 
--- The name that an occurrence resolves to, once all names are known.
-abbrev pub resolve : List Name → List ℕ → Found → Resolution
-resolve all text found = by_found found (by_found (found_of (beginning text all)) (Err NeverFull))
+-- All strings of the table are spellings, and are interned.
+pub record IsNameTable (kept : StringTableModel) (records : List OccurrenceRecord) : Type 0 where
+  pub table : IsOccurrenceTable kept.strings records
+  pub interned : (q : List ℕ) → has_word kept q ≡ list_any (bytes_eq q) kept.strings
 
-abbrev pub resolve_all : List Name → List (List ℕ) → List Found → List Resolution
-resolve_all all [] fs = []
+-- The position of the spelling of a full name among these numbers, in order of first sight.
+abbrev pub number_at : List ℕ → OccurrenceRecord → Resolution
+number_at numbers r = elim r.how [
+  | Full ↦ Ok (id (position_or_len (nat_eq r.spelling) numbers))
+  | Prefix ↦ Err NeverFull
+]
+
+abbrev pub with_number : List ℕ → OccurrenceRecord → List ℕ
+with_number numbers r = elim r.how [ Full ↦ insert_key nat_eq numbers r.spelling | Prefix ↦ numbers ]
+
+-- The resolution among all names, if that among earlier names is that there is none.
+abbrev pub resolve : List Name → List ℕ → Resolution → Resolution
+resolve all text (Err NeverFull) = by_found (found_of (beginning text all))
+resolve all text early = early
+
+abbrev pub resolve_all : List Name → List (List ℕ) → List Resolution → List Resolution
+resolve_all all [] rs = []
 resolve_all all (t ∷ ts) [] = []
-resolve_all all (t ∷ ts) (f ∷ fs) = resolve all t f ∷ resolve_all all ts fs
+resolve_all all (t ∷ ts) (r ∷ rs) = resolve all t r ∷ resolve_all all ts rs

@@ -1,7 +1,7 @@
 -- The representation of a store: its answers, its links and its model.
 use Rattle.std.specs.Prelude.{◌≡◌, ◌≤◌, ◌-◌, ◌+◌, ℕ, zero, suc, Bool, true, List, [], ◌∷◌, length, slice_index}
 use Rattle.std.specs.Prelude.{if◌then◌else◌, nat_lt, map, filter, ◌<◌, false, ◌||◌, get_or, IfSome, ◌^◌, Option, Some}
-use Rattle.std.specs.Prelude.{None, drop, slice_get, nat_eq}
+use Rattle.std.specs.Prelude.{None, slice_get, nat_eq}
 use Rattle.std.specs.List.{list_any}
 use Rattle.cweb_store.specs.Names.{NameId, Resolution, resolved_at, Occurrence}
 use Rattle.cweb_store.specs.declared.parts.Part.{Part as Range}
@@ -10,11 +10,10 @@ use Rattle.cweb_store.specs.declared.parts.PartRange.{PartRange}
 use Rattle.cweb_store.specs.declared.parts.iter.Wanted.{Wanted}
 use Rattle.cweb_store.specs.declared.parts.iter.Wanted.TheVariants.{Program, OfName, Macros}
 use Rattle.cweb_store.specs.declared.parts.links.Heads.{Heads}
-use Rattle.cweb_store.specs.declared.table.OccurrenceForm.{OccurrenceForm}
 use Rattle.cweb_store.specs.declared.store.answers.Answers.{Answers}
-use Rattle.cweb_store.specs.surface.Tokens.{too_many, replacement_of, part_count, token_count}
-use Rattle.cweb_store.specs.inner.Known.{occurrences_at}
-use Rattle.cweb_store.specs.Calls.{Replacement, Stored, stored, Contents}
+use Rattle.cweb_store.specs.surface.Tokens.{too_many, replacement_of, part_count, token_count, AreInOneList, stored_strings}
+use Rattle.cweb_store.specs.surface.Tokens.{interned_store_bytes}
+use Rattle.cweb_store.specs.Calls.{Replacement, Contents, Stored}
 use Rattle.cweb_store.specs.inner.PartRanges.{ranges_from}
 use Rattle.cweb_store.specs.declared.replacements.Replaced.{Replaced}
 use Rattle.cweb_store.specs.Names as spec
@@ -102,16 +101,20 @@ last_from byte found i (b ∷ bs) = last_from byte (if nat_eq b byte then Some i
 abbrev pub AreLast : List (Option ℕ) → List ℕ → Type 0
 AreLast places bytes = (byte : ℕ) → byte < 256 → slice_get places byte ≡ Some (last_from byte None 0 bytes)
 
--- The strings are those of the occurrences, then those of the replacements.
-abbrev pub stored_in : List Part → List (List ℕ) → List OccurrenceForm → List ℕ → Stored
-stored_in parts strings forms replaced =
-    stored (occurrences_at strings forms) parts (replacements_at (drop (length forms) strings) replaced)
+-- Each replaced byte has a string, and its last place is known.
+pub record IsReplacementTable (strings : List (List ℕ)) (bytes : List ℕ) (last_places : List (Option ℕ)) : Type 0 where
+  pub count : length strings ≡ length bytes
+  pub last : AreLast last_places bytes
 
-pub record AreStored (parts : List Part) (strings : List (List ℕ)) (forms : List OccurrenceForm) (replaced : List ℕ)
-    (last_places : List (Option ℕ)) (all : Answers) : Type 0 where
-  pub count : length strings ≡ length forms + length replaced
-  pub last : AreLast last_places replaced
-  pub answers : AreAnswers (occurrences_at strings forms) parts all
+-- The strings of a store are in one list of n bytes, in which equal ones count once.
+pub record HoldsBytes (n : ℕ) (s : Stored) : Type 0 where
+  pub strings : AreInOneList n (stored_strings s)
+  pub once : n ≡ interned_store_bytes s
+
+-- A store with its answers and the number of its bytes.
+pub record IsStore (s : Stored) (all : Answers) (bytes : ℕ) : Type 0 where
+  pub answers : AreAnswers s.occurrences s.parts all
+  pub holds : HoldsBytes bytes s
 
 -- At most n occurrences, parts and tokens each.
 pub record HoldsAtMost (n : ℕ) (c : Contents) : Type 0 where

@@ -1,5 +1,5 @@
 -- Strings one after another in a byte buffer, and their edges.
-use Rattle.std.specs.Prelude.{◌≡◌, ℕ, Bool, true, false, ◌==◌, nat_le, List, [], ◌∷◌, codes, if◌then◌else◌, zero, suc}
+use Rattle.std.specs.Prelude.{◌≡◌, ℕ, Bool, true, false, nat_le, List, [], ◌∷◌, if◌then◌else◌, zero, suc}
 use Rattle.std.specs.Prelude.{◌≤◌, ◌++◌, Result, MatchResult, flat_map, drop, length, slice_index_or, slice_range}
 use Rattle.std.specs.List.{list_any}
 use Rattle.cweb_store.specs.declared.edges.Edge.{Edge}

@@ -1,10 +1,11 @@
 -- Strings, and the words among them that are interned.
-use Rattle.std.specs.Prelude.{◌≡◌, ◌≤◌, ℕ, ◌+◌, Bool, true, List, [], ◌∷◌, ◌++◌, Some, map, length, slice_get, bytes_eq, Result, MatchResult}
+use Rattle.std.specs.Prelude.{◌≡◌, ◌≤◌, ℕ, ◌+◌, Bool, true, List, [], ◌∷◌, ◌++◌, Some, map, length, slice_get, bytes_eq}
+use Rattle.std.specs.Prelude.{Result, MatchResult, if◌then◌else◌}
 use Rattle.std.specs.List.{list_any}
 use Rattle.cweb_store.specs.declared.words.word.Word.{Word}
 use Rattle.cweb_store.specs.inner.StringLists.{text_bytes}
 use Rattle.cweb_store.specs.inner.Words.{Entries, AreInterned, word_string, entry_word}
-use Rattle.cweb_store.specs.surface.Tokens.{total, with_word}
+use Rattle.cweb_store.specs.surface.Tokens.{with_word}
 
 -- strings are numbered by 32 bits, so there are fewer than this
 abbrev pub string_limit : ℕ
@@ -35,14 +36,11 @@ pub record AddsString (old : StringTableModel) (string : List ℕ) (number : ℕ
   pub bytes : length (text_bytes more) ≡ length string
   pub few : length more ≤ 1
 
--- a word was interned, which adds no bytes if it was interned before
+-- a word was interned: its string is the one that was there, or was appended
 pub record InternsWord (old : StringTableModel) (word : List ℕ) (number : ℕ) (new : StringTableModel) : Type 0 where
-  pub more : List (List ℕ)
-  pub grows : new.strings ≡ old.strings ++ more
+  pub grows : new.strings ≡ (if has_word old word then old.strings else old.strings ++ word ∷ [])
   pub stored : slice_get new.strings number ≡ Some word
   pub words : (q : List ℕ) → has_word new q ≡ list_any (bytes_eq q) (with_word old.words word)
-  pub bytes : length (text_bytes more) + total length old.words ≡ total length (with_word old.words word)
-  pub few : length more ≤ 1
 
 -- a call added a string, or memory is refused and nothing changed
 abbrev pub TakesString : {E : Type 0} → StringTableModel → List ℕ → Result ℕ E → StringTableModel → Type 0

@@ -57,6 +57,10 @@ total f (x ∷ xs) = f x + total f xs
 abbrev pub with_word : List (List ℕ) → List ℕ → List (List ℕ)
 with_word words word = if list_any (bytes_eq word) words then words else words ++ word ∷ []
 
+-- The strings without repetitions, in order of first occurrence.
+abbrev pub distinct_strings : List (List ℕ) → List (List ℕ)
+distinct_strings strings = fold with_word [] strings
+
 -- The model of a token that borrows its bytes.
 abbrev pub token_model : BorrowedToken → spec.Token
 token_model (borrowed.Word string) = spec.Word string.now
@@ -138,11 +142,12 @@ uninterned_store_bytes s =
     total token_size (all_tokens s.parts) +
     (total length (map occurrence_text s.occurrences) + total length (map replacement_bytes s.replacements))
 
--- The number of bytes of all strings. Equal strings of Words and Puncts count once, others as often as they occur.
+-- The number of bytes of all strings. Equal strings of Words, Numbers and Puncts count once, and so do equal spellings.
 abbrev pub interned_store_bytes : Stored → ℕ
 interned_store_bytes s =
     interned_token_bytes (all_tokens s.parts) +
-    (total length (map occurrence_text s.occurrences) + total length (map replacement_bytes s.replacements))
+    (total length (distinct_strings (map occurrence_text s.occurrences))
+    + total length (map replacement_bytes s.replacements))
 
 -- The capacities of the vectors of tokens: of their records, of the places of Marks, and of the index of uses and Defs.
 pub record TokenRooms : Type 0 where

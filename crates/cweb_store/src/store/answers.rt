@@ -4,10 +4,10 @@ ghost use Rattle.cweb_store.specs.inner.Stored.{AreAnswers};
 
 use crate::faults::name_faults;
 use crate::name::{NameFault, NameId};
+use crate::occurrences::Occurrences;
 use crate::parts::closed::ClosedParts;
 use crate::parts::links::Links;
 use crate::resolution::Resolutions;
-use crate::table::NameTable;
 use indexmap::IndexSet;
 use std::alloc::{AllocError, Global};
 
@@ -37,15 +37,19 @@ impl Drop for Answers {
 
 impl Answers {
     /// Computes the answers for a web's names and parts.
-    pub fn of(alloc: Global, table: &NameTable, parts: &ClosedParts) -> Result<Answers, AllocError>
-        ensures { IfOk result (λ all. AreAnswers table.now parts.now all) }
+    pub fn of(
+        alloc: Global,
+        occurrences: &Occurrences,
+        parts: &ClosedParts,
+    ) -> Result<Answers, AllocError>
+        ensures { IfOk result (λ all. AreAnswers occurrences.now parts.now all) }
     {
-        let (names, resolutions) = table.resolve()?;
-        let files = table.files(resolutions.as_slice())?;
+        let (names, resolutions) = occurrences.resolve()?;
+        let files = occurrences.files(resolutions.as_slice())?;
         let links = Links::new(alloc, parts.ranges(), resolutions.as_slice(), names.len())?;
         let (faults, firsts) = name_faults(
             alloc,
-            table,
+            occurrences,
             parts,
             names,
             resolutions.as_slice(),

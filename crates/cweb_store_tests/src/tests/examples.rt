@@ -66,7 +66,7 @@ impl ExampleBuilder {
         how: How,
         is_file: bool,
     ) -> Result<(), AllocError> {
-        holds(rt, self.calls < 1000);
+        holds(rt, self.calls < 1_000_000);
         self.calls += 1;
         self.builder.occurrence(text.as_bytes(), how, is_file)?;
         Ok(())
@@ -74,7 +74,7 @@ impl ExampleBuilder {
 
     #[tactic(auto, using(cweb_store::proofs::CallerLemmas::token_count_opened, cweb_store::proofs::CallerLemmas::part_count_opened))]
     fn open_part(&mut self, rt: &impl Abort, kind: PartKind) -> Result<(), AllocError> {
-        holds(rt, self.calls < 1000);
+        holds(rt, self.calls < 1_000_000);
         self.calls += 1;
         holds(rt, !self.is_open);
         self.builder.open_part(kind)?;
@@ -84,7 +84,7 @@ impl ExampleBuilder {
 
     #[tactic(auto, using(cweb_store::proofs::CallerLemmas::token_count_pushed, cweb_store::proofs::CallerLemmas::part_count_pushed))]
     fn push_token(&mut self, rt: &impl Abort, token: Token<'_>) -> Result<(), AllocError> {
-        holds(rt, self.calls < 1000);
+        holds(rt, self.calls < 1_000_000);
         self.calls += 1;
         holds(rt, self.is_open);
         self.builder.push(token)?;
@@ -93,7 +93,7 @@ impl ExampleBuilder {
 
     #[tactic(auto, using(cweb_store::proofs::CallerLemmas::token_count_dropped, cweb_store::proofs::CallerLemmas::part_count_dropped))]
     fn drop_layout(&mut self, rt: &impl Abort) -> Result<(), AllocError> {
-        holds(rt, self.calls < 1000);
+        holds(rt, self.calls < 1_000_000);
         self.calls += 1;
         holds(rt, self.is_open);
         self.builder.drop_layout();
@@ -102,7 +102,7 @@ impl ExampleBuilder {
 
     #[tactic(auto, using(cweb_store::proofs::CallerLemmas::token_count_closed, cweb_store::proofs::CallerLemmas::part_count_closed))]
     fn close_part(&mut self, rt: &impl Abort) -> Result<(), AllocError> {
-        holds(rt, self.calls < 1000);
+        holds(rt, self.calls < 1_000_000);
         self.calls += 1;
         holds(rt, self.is_open);
         self.builder.close_part();
@@ -111,7 +111,7 @@ impl ExampleBuilder {
     }
 
     fn transliterate(&mut self, rt: &impl Abort, byte: u8, text: &str) -> Result<(), AllocError> {
-        holds(rt, self.calls < 1000);
+        holds(rt, self.calls < 1_000_000);
         self.calls += 1;
         holds(rt, byte >= 128);
         self.builder.transliterate(byte, text.as_bytes())?;

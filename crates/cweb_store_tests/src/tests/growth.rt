@@ -51,7 +51,7 @@ fn many_replacements_of_a_byte(rt: HostRuntime) -> Result<(), Fail> {
     check(&rt, rt.alloc(), &ReplacedOften)
 }
 
-// Equal Words, Numbers and Puncts are stored once, other strings as often as they occur.
+// Equal Words, Numbers and Puncts are stored once, and so are equal spellings. Others are stored as often as they occur.
 #[test]
 fn bytes_of_strings(rt: HostRuntime) -> Result<(), Fail> {
     const EXAMPLES: &[(&str, &str)] = &[
@@ -79,7 +79,11 @@ fn bytes_of_strings(rt: HostRuntime) -> Result<(), Fail> {
         ),
         (
             "program; word foo; full a.h b; full a.h b",
-            "tokens 1; bytes 13",
+            "tokens 1; bytes 8",
+        ),
+        (
+            "program; full a b; prefix a; file a b; full a; prefix a b",
+            "tokens 0; bytes 4",
         ),
         (
             "program; word foo; byte 200 cd",

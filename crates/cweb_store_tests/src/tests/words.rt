@@ -4,9 +4,11 @@ use super::*;
 // The bytes of Words that differ only in the middle.
 fn digits(number: u32) -> [u8; 24] {
     let mut bytes = [b'a'; 24];
-    bytes[10] = b'0' + (number / 100 % 10) as u8;
-    bytes[11] = b'0' + (number / 10 % 10) as u8;
-    bytes[12] = b'0' + (number % 10) as u8;
+    bytes[10] = b'0' + (number / 10_000 % 10) as u8;
+    bytes[11] = b'0' + (number / 1_000 % 10) as u8;
+    bytes[12] = b'0' + (number / 100 % 10) as u8;
+    bytes[13] = b'0' + (number / 10 % 10) as u8;
+    bytes[14] = b'0' + (number % 10) as u8;
     bytes
 }
 
@@ -71,6 +73,18 @@ fn many_words(rt: HostRuntime) -> Result<(), Fail> {
         words,
         count: 300,
         bytes: 2400,
+    };
+    check(&rt, rt.alloc(), &case)
+}
+
+// Each Word is stored once, and the Words before and after the 65,536th one alike.
+#[test]
+fn more_words_than_16_bits_count(rt: HostRuntime) -> Result<(), Fail> {
+    let words = Words::Short;
+    let case = PushedTwice {
+        words,
+        count: 70_000,
+        bytes: 560_000,
     };
     check(&rt, rt.alloc(), &case)
 }

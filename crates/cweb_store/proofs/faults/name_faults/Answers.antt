@@ -4,7 +4,7 @@ use Rattle.cweb_store.proofs.faults.name_faults.Goals as goal
 
 pub returns-clause-found : goal.returns-clause-found
 returns-clause-found c =
-    let os = c.args.table.now in
+    let os = c.args.occurrences.now in
     let ps = c.args.parts.now in
     let first : c.add_unresolved_faults.new.faults.items ≡ unresolved_faults (spec.resolutions os) =
     c.in_ok-add_unresolved_faults.ensures

@@ -1,44 +1,52 @@
-use Rattle.cweb_store.proofs.Common.{◌<◌, ◌+◌, ◌∷◌, [], ap, length, arith, length-append, OccurrenceForm, too_many}
-use Rattle.cweb_store.proofs.OccurrenceTableLemmas.{occurrences-count, occurrences-push}
+use Rattle.cweb_store.proofs.Common.{◌<◌, ◌+◌, ap, length, length-map, arith, too_many}
+use Rattle.cweb_store.proofs.NumberLemmas.{added-is, added-are, strings-few}
+use Rattle.cweb_store.specs.declared.occurrences.OccurrenceRecord.{OccurrenceRecord}
+use Rattle.cweb_store.specs.inner.Known.{occurrence_at}
 use Rattle.cweb_store.proofs.table.NameTable.add.Goals as goal
 
-pub invariant_of-self-2 : goal.invariant_of-self-2
-invariant_of-self-2 c =
+pub intern_word-requires : goal.intern_word-requires
+intern_word-requires c =
     let s = c.self.inside in
-    let g : OccurrenceForm = record { how = c.args.how; is_file = c.args.is_file } in
-    let few : length s.forms.items + 1 < too_many =
     omega (
       arith,
       c.requires,
       ap length c.self.view_is,
-      occurrences-count s.strings s.forms.items (omega (arith, c.self.invariant.count)),
+      length-map s.records.items (occurrence_at s.strings.strings),
+      strings-few s.strings.strings s.records.items c.self.invariant.table,
+    )
+
+pub invariant_of-self-2 : goal.invariant_of-self-2
+invariant_of-self-2 c =
+    let s = c.self.inside in
+    let spelling = c.in_ok-spelling.spelling in
+    let r : OccurrenceRecord = record { spelling = spelling; how = c.args.how; is_file = c.args.is_file } in
+    let few : length s.records.items + 1 < too_many =
+    omega (
+      arith,
+      c.requires,
+      ap length c.self.view_is,
+      length-map s.records.items (occurrence_at s.strings.strings),
     ) in
-    rw (c.push_reserved.ensures.items, c.in_ok-number.ensures.added, c.in_ok-reserve.ensures.items)
-    (record {
-      count =
-          omega (
-            arith,
-            c.self.invariant.count,
-            length-append s.strings (c.args.name.now ∷ []),
-            length-append s.forms.items (g ∷ []),
-          );
-      few = omega (arith, few, length-append s.forms.items (g ∷ []));
-    })
+    rw (c.push_reserved.ensures.items, c.in_ok-reserve.ensures.items)
+    (added-are s.strings c.intern_word.new.self s.records.items c.args.name.now r c.self.invariant
+    c.in_ok-spelling.ensures few)
 
 pub returns-clause-number : goal.returns-clause-number
 returns-clause-number c =
     let s = c.self.inside in
     omega (
       arith,
-      c.in_ok-number.ensures.number,
+      c.len-number.ensures,
+      ap length c.in_ok-reserve.ensures.items,
       ap length c.self.view_is,
-      c.self.invariant.count,
-      occurrences-count s.strings s.forms.items (omega (arith, c.self.invariant.count)),
+      length-map s.records.items (occurrence_at s.strings.strings),
     )
 
 pub returns-clause-added : goal.returns-clause-added
 returns-clause-added c =
     let s = c.self.inside in
-    let g : OccurrenceForm = record { how = c.args.how; is_file = c.args.is_file } in
-    rw (c.push_reserved.ensures.items, c.in_ok-number.ensures.added, c.in_ok-reserve.ensures.items, ← c.self.view_is)
-    (occurrences-push s.strings s.forms.items c.args.name.now g c.self.invariant.count)
+    let spelling = c.in_ok-spelling.spelling in
+    let r : OccurrenceRecord = record { spelling = spelling; how = c.args.how; is_file = c.args.is_file } in
+    rw (c.push_reserved.ensures.items, c.in_ok-reserve.ensures.items, ← c.self.view_is)
+    (added-is s.strings c.intern_word.new.self s.records.items c.args.name.now r c.self.invariant
+    c.in_ok-spelling.ensures)

@@ -1,5 +1,6 @@
 use Rattle.cweb_store.proofs.Common.{append-nil, ◌++◌, common_steps, ◌≡◌, ◌<◌, ℕ, List, [], ◌∷◌, arith, filter, length, InternsToken, StringIsWithin, token_of_record, has_string, string_at, Place, Record}
 use Rattle.cweb_store.proofs.StringListLemmas.{get-string}
+use Rattle.cweb_store.proofs.InterningLemmas.{adds}
 use Rattle.cweb_store.specs.inner.StringTables.{StringTableModel, AddsString, InternsWord}
 use Rattle.cweb_store.specs.surface.Tokens.{with_word, other_bytes, with_word_of}
 use Rattle.std.proofs.lemmas.Option.{slice_get_within}
@@ -26,8 +27,14 @@ word-packs : {old new : StringTableModel} {places : List Place} {word : List ℕ
     → with_word_of old.words token ≡ with_word old.words word
     → other_bytes token ≡ 0 → length (filter has_string (token ∷ [])) ≡ 1
     → InternsToken old token places item new
-word-packs {new} {word} {number} token item keeps within stored is_word none one =
-    grind (arith, slice_get_within, get-string)
+word-packs {old} {new} {word} {number} token item keeps within stored is_word none one =
+    grind (arith, slice_get_within, get-string, adds old word number new keeps)
+
+pub returns-in_ok-intern_word-in-Word-clause-packs : goal.returns-in_ok-intern_word-in-Word-clause-packs
+returns-in_ok-intern_word-in-Word-clause-packs c = grind (arith, word-packs)
+
+pub returns-in_ok-intern_word-in-Number-clause-packs : goal.returns-in_ok-intern_word-in-Number-clause-packs
+returns-in_ok-intern_word-in-Number-clause-packs c = grind (arith, word-packs)
 
 pub returns-in_ok-intern_punctuator-in-Punct-clause-packs : goal.returns-in_ok-intern_punctuator-in-Punct-clause-packs
 returns-in_ok-intern_punctuator-in-Punct-clause-packs c = grind (arith, word-packs)

@@ -5,12 +5,12 @@ use Rattle.cweb_store.proofs.NameSetLemmas.{any-part}
 use Rattle.cweb_store.proofs.store.answers.Answers.of.Goals as goal
 
 pub new-requires-clause-known : goal.new-requires-clause-known
-new-requires-clause-known c = resolutions-within c.args.table.now c.as_slice-2.result.now c.len.result
+new-requires-clause-known c = resolutions-within c.args.occurrences.now c.as_slice-2.result.now c.len.result
     (c.as_slice-2.ensures.value ∙ c.in_ok-names.ensures.resolutions)
     (c.len.ensures ∙ ap length c.in_ok-names.ensures.names)
 
 pub name_faults-requires-clause-known : goal.name_faults-requires-clause-known
-name_faults-requires-clause-known c = resolutions-within c.args.table.now c.as_slice-3.result.now _
+name_faults-requires-clause-known c = resolutions-within c.args.occurrences.now c.as_slice-3.result.now _
     (c.as_slice-3.ensures.value ∙ c.in_ok-names.ensures.resolutions) refl
 
 -- A name has a part if the links begin with one.
@@ -27,14 +27,14 @@ returns c =
     let settled = c.as_slice.ensures.value ∙ c.in_ok-names.ensures.resolutions in
     record {
       settled = c.in_ok-names.ensures.resolutions;
-      forms = c.in_ok-files.ensures ∙ ap (λ rs. files_from rs [] 0 c.args.table.now) settled;
+      forms = c.in_ok-files.ensures ∙ ap (λ rs. files_from rs [] 0 c.args.occurrences.now) settled;
       found = c.in_ok-faults.ensures.found;
       defs = c.has_defs_code.ensures;
       first_places = c.in_ok-faults.ensures.firsts;
       few = omega (
         arith,
         ap length c.in_ok-faults.ensures.firsts,
-        length-map (names c.args.table.now) (λ (n : Name). n.first),
+        length-map (names c.args.occurrences.now) (λ (n : Name). n.first),
         ap length c.in_ok-names.ensures.names,
         c.in_ok-names.ensures.few_names,
       );
