@@ -17,14 +17,14 @@ outside_things l _ lines stack outside = refl
 -- An entry is sought.
 module _ {R : Type 0} (t : List ℕ → Option (List ℕ)) (l : R
     → List ℕ) (run : MergeState R) (stage : run.stage ≡ Seeking) where
-  abbrev found : Sought
+  abbrev pub found : Sought
   found = sought (change_lines l run) None
 
-  abbrev after_search : List Event
+  abbrev pub after_search : List Event
   after_search = merge (world_in t run.inputs) (state (things_above l 0 run.stack []) found.entry found.rest
       (length (opened_file_names run.names)))
 
-  sought_first : events_to_come t l run ≡ found.events ++ after_search
+  pub sought_first : events_to_come t l run ≡ found.events ++ after_search
   sought_first = (λ i. coming_of t (optional_string_bytes run.inputs) l (stage i) run.change run.first.items
       (length (opened_file_names run.names)) (things_in l (stage i) (change_lines l run) run.stack))
       ∙ merge_next (world_in t run.inputs) (state (seek ∷ things_above l 0 run.stack []) None

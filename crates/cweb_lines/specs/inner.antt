@@ -3,6 +3,7 @@ pub mod OpenSources
 pub mod Finding
 pub mod LineCalls
 pub mod Passing
+pub mod PassingChanges
 pub mod MergeProgress
 pub mod StepCalls
 pub mod Stages

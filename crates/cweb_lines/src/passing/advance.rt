@@ -33,7 +33,7 @@ fn advance_source<R: Drop>(text: &mut OpenSource<R>, limits: &mut TakenCounters,
 }
 
 #[inline(always)]
-fn advance_slot<R: Drop>(
+pub fn advance_slot<R: Drop>(
     slot: &mut Option<OpenSource<R>>,
     limits: &mut TakenCounters,
     stretch: Stretch,
@@ -55,7 +55,7 @@ fn advance_slot<R: Drop>(
 }
 
 #[inline(always)]
-fn advance_top<R: Drop>(stack: &mut Stack<R>, limits: &mut TakenCounters, stretch: Stretch)
+pub fn advance_top<R: Drop>(stack: &mut Stack<R>, limits: &mut TakenCounters, stretch: Stretch)
     requires some { 0 < stack.old.depth }
     requires shallow { stack.old.depth ≤ OPEN_FILES }
     requires next { (entry : Option WaitingEntry) × (lines : List (List ℕ))

@@ -10,6 +10,7 @@ use std::alloc::AllocError;
 
 impl<S: Shelf> Merger<S> {
     /// Appends lines that pass through, while the buffer has fewer than `room` bytes. A refused line is still to come.
+    /// Changes whose lines are in the buffers are applied, so their new lines are appended, too.
     pub(crate) fn pass_lines(&mut self, buffer: &mut Vec<u8>, room: usize) -> Result<(), AllocError>
         ensures passes { AppendsPassedLines room self.old.run self.new.run
             buffer.old.items buffer.new.items }
@@ -17,6 +18,9 @@ impl<S: Shelf> Merger<S> {
     {
         'lines: while buffer.len() < room {
             let Some(first) = self.first_ahead() else {
+                if self.run.pass_change(buffer, room)? {
+                    continue 'lines;
+                }
                 break 'lines;
             };
             let ahead = self.ahead_up_to(first, room - buffer.len());
@@ -54,7 +58,7 @@ impl<S: Shelf> Merger<S> {
 
 // Appends a line and its newline, or neither. The room for both is requested at once, so that the buffer grows once.
 #[inline(always)]
-fn append_line(buffer: &mut Vec<u8>, line: &[u8]) -> Result<(), AllocError>
+pub(crate) fn append_line(buffer: &mut Vec<u8>, line: &[u8]) -> Result<(), AllocError>
     ensures ok { OnOk result (buffer.new.items ≡ buffer.old.items ++ line.now ++ 10 ∷ []) }
     ensures err { OnErr result (buffer.new.items ≡ buffer.old.items) }
 {

@@ -5,6 +5,18 @@ use Rattle.cweb_lines.proofs.merger.Merger.pass_lines.Goals as goal
 pub lines-init : goal.lines-init
 lines-init g c = record { passes = passes_none _ _ _ }
 
+pub returns-in_err-pass_change-clause-passes : goal.returns-in_err-pass_change-clause-passes
+returns-in_err-pass_change-clause-passes g c =
+    passes_then _ _ _ _ _ _ _ c.lines.invariant.passes c.pass_change.ensures.passes
+
+pub returns-else-branch-clause-passes : goal.returns-else-branch-clause-passes
+returns-else-branch-clause-passes g c =
+    passes_then _ _ _ _ _ _ _ c.lines.invariant.passes c.pass_change.ensures.passes
+
+pub lines-preserved-then-branch : goal.lines-preserved-then-branch
+lines-preserved-then-branch g c =
+    record { passes = passes_then _ _ _ _ _ _ _ c.lines.invariant.passes c.pass_change.ensures.passes }
+
 pub lines-smaller : goal.lines-smaller
 lines-smaller g c =
     let next = c.ahead_up_to-ahead.ensures.lines in
