@@ -12,7 +12,7 @@ fn owner_of(frame: Option<&Frame<'_>>) -> Option<u32> {
     Some(frame?.owner?.0)
 }
 
-// The owner of the top frame at the start, and after two tokens.
+// The owner of the top frame at the start, and after three tokens.
 #[derive(Drop)]
 struct Owners {
     first: Option<u32>,
@@ -28,6 +28,8 @@ impl Case for Owners {
         holds(rt, plan.outputs() > 0);
         let mut expander = Expander::new(alloc, store, &plan, 0).expect(rt, "memory");
         holds(rt, owner_of(expander.frames.last()) == self.first);
+        // the macro definitions, a Word of the program and one of the name
+        let _defs = expander.next();
         let _first = expander.next();
         let _second = expander.next();
         holds(rt, owner_of(expander.frames.last()) == self.second);
