@@ -32,10 +32,10 @@ impl Model for StringTable {
 
     ghost Value = { StringTableModel };
 
-    ghost view = { λ s. table_model s.strings s.table s.sorted.entries };
+    ghost view = { λ s. table_model s.strings s.table.words s.sorted.entries };
 
     ghost invariant = { λ s.
-        IsStringTable s.strings s.table s.sorted.entries s.byte_ids.items };
+        IsStringTable s.strings s.table.words s.sorted.entries s.byte_ids.items };
 }
 
 impl StringTable {

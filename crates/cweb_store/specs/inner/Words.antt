@@ -1,7 +1,7 @@
 -- Interned words: their keys, those of the hash table, and those of the sorted map.
 use Rattle.std.specs.Prelude.{ℕ, ◌<◌, ◌+◌, ◌-◌, ◌*◌, ◌/◌, ◌%◌, ◌^◌, nat_lt, List, length, take, drop, fold}
 use Rattle.std.specs.Prelude.{slice_index_or, if◌then◌else◌, bit_xor, ◌≡◌, Bool, true, [], ◌∷◌, ◌++◌, map, slice_get}
-use Rattle.std.specs.Prelude.{bytes_eq, Some, Vec, suc, ◌≤◌}
+use Rattle.std.specs.Prelude.{bytes_eq, Some, Vec, suc, ◌≤◌, filter, nat_eq}
 use Rattle.std.specs.Int.{w32, w64, from_le_bytes}
 use Rattle.cweb_store.specs.declared.words.key.Key.{Key}
 use Rattle.std.specs.List.{list_any}
@@ -147,3 +147,16 @@ pub record AreChains (ws : List Word) (heads nexts : List ℕ) : Type 0 where
   pub from_bucket : (bucket : ℕ) → IsLink ws (length heads) bucket (slice_index_or heads bucket 0) (length ws)
   pub from_word : (k : ℕ) (w : Word) → slice_get ws k ≡ Some w → IsLink ws (length heads)
       (home_bucket_of w.key (length heads)) (slice_index_or nexts k 0) k
+
+-- the words of a hash table, and the number of its buckets
+pub record WordTableModel : Type 0 where
+  pub words : List Word
+  pub buckets : ℕ
+
+-- the words in the bucket of a key among n
+abbrev pub bucket_words : Key → ℕ → List Word → List Word
+bucket_words key n ws = filter (λ (w : Word). nat_eq (home_bucket_of w.key n) (home_bucket_of key n)) ws
+
+-- a bucket takes no more words than this
+abbrev pub longest_chain : ℕ
+longest_chain = 8

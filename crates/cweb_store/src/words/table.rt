@@ -1,9 +1,9 @@
 // A hash table of words.
 ghost use Rattle.std.specs.Prelude.{◌≡◌, ◌<◌, ◌≤◌, ◌∷◌, ◌++◌, [], ℕ, List, Some, length, false, slice_get};
-ghost use Rattle.std.specs.Prelude.{slice_index_or, IfSome, MatchBool, MatchOption, vec_capacity, vec_len};
+ghost use Rattle.std.specs.Prelude.{nat_le, slice_index_or, IfSome, MatchBool, MatchOption, vec_capacity, vec_len};
 ghost use Rattle.cweb_store.specs.declared.words.word.Word.{Word};
 ghost use Rattle.cweb_store.specs.inner.Words.{AreChains, key_of, DescribeStrings, FindsString, PushesWord};
-ghost use Rattle.cweb_store.specs.inner.Words.{have_string};
+ghost use Rattle.cweb_store.specs.inner.Words.{bucket_words, have_string, longest_chain};
 
 use crate::strings::StringList;
 use crate::words::key::{Key, home_bucket};
@@ -30,13 +30,12 @@ pub struct WordTable {
 }
 
 impl Model for WordTable {
-    ghost use Rattle.std.specs.Prelude.{List};
-    ghost use Rattle.cweb_store.specs.declared.words.word.Word.{Word};
-    ghost use Rattle.cweb_store.specs.inner.Words.{AreChains};
+    ghost use Rattle.std.specs.Prelude.{length};
+    ghost use Rattle.cweb_store.specs.inner.Words.{AreChains, WordTableModel};
 
-    ghost Value = { List Word };
+    ghost Value = { WordTableModel };
 
-    ghost view = { λ s. s.words.items };
+    ghost view = { λ s. record { words = s.words.items; buckets = length s.heads.items } };
 
     ghost invariant = { λ s. AreChains s.words.items s.heads.items s.nexts.items };
 }
@@ -44,7 +43,7 @@ impl Model for WordTable {
 impl WordTable {
     /// An empty table. It takes no memory.
     pub fn new(alloc: Global) -> WordTable
-        ensures { result ≡ [] }
+        ensures { result.words ≡ [] }
     {
         WordTable {
             alloc,
@@ -57,7 +56,7 @@ impl WordTable {
     /// The latest word of the bucket of a key.
     #[inline(always)]
     pub fn latest(&self, key: Key) -> Option<&Word>
-        ensures { IfSome result (λ word. (k : ℕ) × (slice_get self.now k ≡ Some word.now)) }
+        ensures { IfSome result (λ word. (k : ℕ) × (slice_get self.now.words k ≡ Some word.now)) }
     {
         let bucket = home_bucket(key, self.heads.len());
         let head = link_at(self.heads.as_slice(), bucket);
@@ -66,10 +65,10 @@ impl WordTable {
 
     /// The number of the string of a word, if the table has the word.
     pub fn find(&self, strings: &StringList, key: Key, word: &[u8]) -> Option<u32>
-        requires describe { DescribeStrings strings.now self.now }
+        requires describe { DescribeStrings strings.now self.now.words }
         requires key { key ≡ key_of word.now }
-        ensures { MatchOption result (have_string strings.now self.now word.now ≡ false)
-            (λ number. FindsString strings.now self.now word.now number) }
+        ensures { MatchOption result (have_string strings.now self.now.words word.now ≡ false)
+            (λ number. FindsString strings.now self.now.words word.now number) }
     {
         let bucket = home_bucket(key, self.heads.len());
         let mut link = link_at(self.heads.as_slice(), bucket);
@@ -83,23 +82,25 @@ impl WordTable {
         None
     }
 
-    /// Whether the chain of a key takes no more words.
-    pub fn is_full(&self, key: Key) -> bool {
+    /// Whether the chain of a key takes no more words: its bucket has as many as the longest chain.
+    pub fn is_full(&self, key: Key) -> bool
+        ensures { result
+            ≡ nat_le longest_chain (length (bucket_words key self.now.buckets self.now.words)) }
+    {
         let bucket = home_bucket(key, self.heads.len());
         let mut link = link_at(self.heads.as_slice(), bucket);
-        for _ in 0..LONGEST_CHAIN {
-            if link == 0 {
-                return false;
-            }
+        let mut count = 0;
+        'chain: while link > 0 && count < LONGEST_CHAIN {
             link = link_at(self.nexts.as_slice(), link - 1);
+            count += 1;
         }
-        true
+        count == LONGEST_CHAIN
     }
 
     /// Appends a word. Returns false and changes nothing if a number does not fit, or memory is refused.
     pub fn push(&mut self, key: Key, len: usize, number: u32) -> bool
-        ensures { MatchBool result (PushesWord self.old key len number self.new)
-            (self.new ≡ self.old) }
+        ensures { MatchBool result (PushesWord self.old.words key len number self.new.words)
+            (self.new.words ≡ self.old.words) }
     {
         let Some(word) = Word::new(key, len, number) else {
             return false;
@@ -119,7 +120,7 @@ impl WordTable {
     // Doubles the buckets if there are fewer than four for each word, and memory is there. Each bucket is split, so that no
     // chain gets longer.
     fn grow(&mut self)
-        ensures { self.new ≡ self.old }
+        ensures { self.new.words ≡ self.old.words }
     {
         let buckets = self.heads.len();
         if 4 * self.words.len() < buckets {

@@ -8,11 +8,11 @@ invariant_of-self-then-push c =
     let s = c.self.inside in
     let word = c.args.word.now in
     let number = c.in_ok-number.number in
-    let keeps : InternsWord (table_model s.strings s.table s.sorted.entries) word number
-    (table_model c.add_word.new.self c.push.new.self s.sorted.entries) =
+    let keeps : InternsWord (table_model s.strings s.table.words s.sorted.entries) word number
+    (table_model c.add_word.new.self c.push.new.self.words s.sorted.entries) =
     grind (
       arith,
-      table-keeps s.strings s.table c.push.new.self s.sorted.entries word number c.self.invariant.interned,
+      table-keeps s.strings s.table.words c.push.new.self.words s.sorted.entries word number c.self.invariant.interned,
       c.if-push.ensures,
       c.in_ok-number.ensures,
       c.requires.key,
@@ -21,14 +21,14 @@ invariant_of-self-then-push c =
     record {
       interned = grind (
         arith,
-        table-interned s.strings s.table c.push.new.self s.sorted.entries word number c.self.invariant.interned
+        table-interned s.strings s.table.words c.push.new.self.words s.sorted.entries word number c.self.invariant.interned
             (λ i. (c.type_inv.word i).fits),
         c.if-push.ensures,
         c.in_ok-number.ensures,
         c.requires.key,
       );
-      by_byte = byte_ids-word (table_model s.strings s.table s.sorted.entries)
-          (table_model c.add_word.new.self c.push.new.self s.sorted.entries) s.byte_ids.items word number keeps
+      by_byte = byte_ids-word (table_model s.strings s.table.words s.sorted.entries)
+          (table_model c.add_word.new.self c.push.new.self.words s.sorted.entries) s.byte_ids.items word number keeps
           c.self.invariant.by_byte;
     }
 
@@ -37,7 +37,7 @@ returns-then-push c =
     let s = c.self.inside in
     grind (
       arith,
-      table-keeps s.strings s.table c.push.new.self s.sorted.entries c.args.word.now c.in_ok-number.number
+      table-keeps s.strings s.table.words c.push.new.self.words s.sorted.entries c.args.word.now c.in_ok-number.number
           c.self.invariant.interned,
       c.if-push.ensures,
       c.in_ok-number.ensures,

@@ -9,9 +9,9 @@ invariant_of-self-2 c =
     let string = c.args.string.now in
     rw c.in_ok-number.ensures.added
     (record {
-      interned = interned-grow s.strings (string ∷ []) s.table s.sorted.entries c.self.invariant.interned;
+      interned = interned-grow s.strings (string ∷ []) s.table.words s.sorted.entries c.self.invariant.interned;
       by_byte = byte_ids-string _ _ s.byte_ids.items string c.in_ok-number.number
-          (string-keeps s.strings s.table s.sorted.entries string c.in_ok-number.number c.self.invariant.interned
+          (string-keeps s.strings s.table.words s.sorted.entries string c.in_ok-number.number c.self.invariant.interned
           c.in_ok-number.ensures.number) c.self.invariant.by_byte;
     })
 
@@ -19,5 +19,5 @@ pub returns : goal.returns
 returns c =
     let s = c.self.inside in
     rw (c.in_ok-number.ensures.added, ← c.self.view_is)
-    (string-keeps s.strings s.table s.sorted.entries c.args.string.now c.in_ok-number.number
+    (string-keeps s.strings s.table.words s.sorted.entries c.args.string.now c.in_ok-number.number
     c.self.invariant.interned c.in_ok-number.ensures.number)

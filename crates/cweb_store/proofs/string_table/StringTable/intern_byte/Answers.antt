@@ -13,7 +13,7 @@ invariant_of-self c =
     let one = one-byte word 0 (omega (arith, c.in-len1.len_at_least)) (omega (arith, c.in-len1.len_below)) in
     let interns : InternsWord old (byte ∷ []) number new =
     subst (λ string. InternsWord old string number new) (sym one) c.in_ok-number.ensures in
-    let kept = table_model s.strings s.table s.sorted.entries in
+    let kept = table_model s.strings s.table.words s.sorted.entries in
     let same : kept ≡ new = c.self.view_is ∙ c.begin.ensures in
     record {
       interned = c.self.invariant.interned;

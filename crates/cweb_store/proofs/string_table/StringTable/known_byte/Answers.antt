@@ -10,7 +10,7 @@ map_some None f h = tt
 pub returns-in-len1 : goal.returns-in-len1
 returns-in-len1 c =
     let s = c.self.inside in
-    let kept = table_model s.strings s.table s.sorted.entries in
+    let kept = table_model s.strings s.table.words s.sorted.entries in
     let string = c.args.string.now in
     let byte = slice_index_or string 0 0 in
     let one = one-byte string 0 (omega (arith, c.in-len1.len_at_least)) (omega (arith, c.in-len1.len_below)) in

@@ -1,4 +1,5 @@
-use Rattle.cweb_store.proofs.Common.{◌≡◌, ◌-◌, false, Some, length, sym, ◌∙◌, ap, arith, slice_get, slice_get-get_or, bytes_eq, IsLink, word_string, home_bucket_of}
+use Rattle.cweb_store.proofs.Common.{◌≡◌, ◌-◌, false, Some, length, sym, ◌∙◌, ap, arith, slice_get, slice_get-get_or, bytes_eq, IsLink, word_string, home_bucket_of, subst, DescribeStrings}
+use Rattle.cweb_store.specs.inner.Words.{WordTableModel}
 use Rattle.cweb_store.proofs.TableLemmas.{found-word, no-word-found}
 use Rattle.cweb_store.proofs.ChainLemmas.{next-passed}
 use Rattle.cweb_store.proofs.words.table.WordTable.find.Goals as goal
@@ -11,7 +12,8 @@ returns-then-is c =
     let there : slice_get ws k ≡ Some w =
     slice_get-get_or ws k w (omega arith) ∙ ap Some (sym c.index-candidate.ensures) in
     rw (← c.self.view_is) (found-word c.args.strings.now ws c.args.word.now k w
-    (rw c.self.view_is c.requires.describe) there (sym c.if-is.ensures))
+    (subst (λ (v : WordTableModel). DescribeStrings c.args.strings.now v.words) (sym c.self.view_is)
+    c.requires.describe) there (sym c.if-is.ensures))
 
 pub chain-smaller : goal.chain-smaller
 chain-smaller c =
@@ -52,5 +54,6 @@ returns c =
     let ws = c.self.inside.words.items in
     let buckets = length c.self.inside.heads.items in
     rw (← c.self.view_is) (no-word-found c.args.strings.now ws c.args.word.now buckets
-    (rw c.self.view_is c.requires.describe) (λ k w there inside. c.chain.invariant.passed k w there (omega arith)
+    (subst (λ (v : WordTableModel). DescribeStrings c.args.strings.now v.words) (sym c.self.view_is)
+    c.requires.describe) (λ k w there inside. c.chain.invariant.passed k w there (omega arith)
     (inside ∙ ap (λ x. home_bucket_of x buckets) (sym c.requires.key))))
