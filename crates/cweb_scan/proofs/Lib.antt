@@ -71,3 +71,7 @@ pub mod Adding
 pub mod SmallSteps
 pub mod CountedLexemes
 pub mod Terms
+pub mod MarkedUses
+pub mod OpeningCodes
+pub mod BegunParts
+pub mod WholeParts

@@ -1,2 +1,3 @@
 -- Definitions that only laws cite.
 pub mod Laws
+pub mod PartTokens

@@ -14,6 +14,7 @@ ghost use Rattle.cweb_scan.specs.Lexemes.{InPlainC, ReadsAlone, spelling_of, dou
 ghost use Rattle.cweb_scan.specs.Lexemes.{scanned};
 ghost use Rattle.cweb_scan.specs.laws.Laws.{lexemes, IsReadAs, continues_token, OccurrencesAreLexemes};
 ghost use Rattle.cweb_scan.specs.laws.Laws.{SectionsAreSectionStarts, AreLexemes, PlacesPass, LexemesKeepLines};
+ghost use Rattle.cweb_scan.specs.laws.PartTokens.{MarksFollowUses, PartsAreWhole};
 ghost use Rattle.cweb_scan.specs.State.{in_directive};
 ghost use Rattle.cweb_scan.specs.surface.Scan.{IsBounded, web_size};
 ghost use Rattle.cweb_store.specs.Parts.{Token};
@@ -38,6 +39,16 @@ pub fn sections_are_section_starts()
 /// The occurrences of the store are the lexemes that are names, in order.
 pub fn occurrences_are_lexemes()
     ensures { (lines : List Line) → OccurrencesAreLexemes lines }
+{}
+
+/// Each part of C text begins with the Head and ends with the Tail of one of the sections. A macro begins with a Word.
+pub fn parts_are_whole()
+    ensures { (lines : List Line) → PartsAreWhole lines }
+{}
+
+/// In C text a Mark follows each use of a name and each Defs. The exception: a Join drops the Mark and follows itself.
+pub fn marks_follow_uses()
+    ensures { (lines : List Line) → MarksFollowUses lines }
 {}
 
 /// Blanks between two lexemes of C text outside directives change nothing: one blank more leaves the result unchanged.

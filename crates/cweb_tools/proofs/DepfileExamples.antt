@@ -1,6 +1,7 @@
 -- Worked examples: texts that `wdep` prints. `tests/depfiles` shows that GNU make reads such texts.
 use Rattle.cweb_tools.proofs.Common.{◌≡◌, [], ◌∷◌, codes, refl}
 use Rattle.cweb_tools.specs.Depfile.{depfile, each_once, escaped}
+use Rattle.cweb_tools.specs.declared.depfile.TheConstants.{WIDTH}
 use Rattle.cweb_tools.specs.declared.depfile.escape.Position.TheVariants.{Target, Inner, Last}
 
 -- Two outputs, and two files beside the web.
@@ -28,6 +29,9 @@ last_name : escaped Last (codes "a\\") ≡ codes "a\\ "
 last_name = refl
 
 -- A line has at most 78 bytes.
+width : WIDTH ≡ 78
+width = refl
+
 long_line : depfile (codes "a23456789012345678901234567890123456789.c" ∷ [])
     (codes "b2345678901234567890123456789012.w" ∷ codes "c.w" ∷ [])
     ≡ codes "a23456789012345678901234567890123456789.c: b2345678901234567890123456789012.w \\\n c.w\nc.w:\n"
