@@ -74,6 +74,7 @@ impl<R: Drop> Source<R> {
             lines_end: 0,
         })
     }
+
     /// Forgets the bytes in the buffer, which were all taken. If the last read filled a small buffer, it becomes larger,
     /// unless memory is refused.
     pub fn clear(&mut self)
