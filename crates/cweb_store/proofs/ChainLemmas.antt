@@ -1,5 +1,5 @@
 -- The chains of a hash table, where a word is linked.
-use Rattle.cweb_store.proofs.Common.{◌≡◌, ℕ, zero, suc, ◌+◌, ◌-◌, ◌≤◌, ◌<◌, Bool, true, List, [], ◌∷◌, Some, refl, sym, ap, arith, eq-eqb, eqb-true, filter, take, length, nat_eq, slice_get, IsLink, home_bucket_of, Key}
+use Rattle.cweb_store.proofs.Common.{◌≡◌, ℕ, zero, suc, ◌+◌, ◌-◌, ◌≤◌, ◌<◌, Bool, true, List, [], ◌∷◌, Some, refl, arith, eq-eqb, eqb-true, filter, take, length, nat_eq, slice_get, IsLink, home_bucket_of, Key}
 use Rattle.cweb_store.specs.inner.Words.{bucket_words}
 use Rattle.cweb_store.specs.declared.words.word.Word.{Word}
 

@@ -1,8 +1,9 @@
 -- The names that tokens use, and whether any token passes, from the index of the next passing token.
-use Rattle.cweb_store.proofs.Common.{arith, ◌≡◌, ◌<◌, ◌+◌, ℕ, Bool, false, ◌||◌, List, [], ◌∷◌, Some, refl, ◌∙◌, ap, slice_get, list_any, list_any-append, NameId, Resolution, Token, if◌then◌else◌, is_use, is_used, is_c_part, is_name_use, IsNextNumber, nat_lt, slice_range}
+use Rattle.cweb_store.proofs.Common.{arith, ◌≡◌, ◌≤◌, ◌<◌, ◌+◌, ◌-◌, ℕ, drop, drop-drop, token_numbers, Bool, false, ◌||◌, List, [], ◌∷◌, Some, refl, ◌∙◌, ap, slice_get, list_any, list_any-append, NameId, Resolution, Token, if◌then◌else◌, is_use, is_used, is_c_part, is_name_use, IsNextNumber, nat_lt, slice_range}
 use Rattle.cweb_store.specs.declared.parts.Part.{Part}
 use Rattle.cweb_store.specs.Parts as spec
-use Rattle.cweb_store.proofs.RangeLemmas.{range-split, range-head}
+use Rattle.cweb_store.proofs.NextLemmas.{BeginsFrom, first-low, next-first, next-rest, none-found}
+use Rattle.cweb_store.proofs.RangeLemmas.{range-split, range-head, range-none}
 
 -- A token of a part passes exactly if the next passing token is in the part.
 pub next-any : (test : Token → Bool) (ts : List Token) (part : Part) (next : ℕ) → IsNextNumber test ts part next
@@ -36,14 +37,34 @@ uses-from-next rs n ts part next is =
       unused rs n (slice_range ts part.first next) is.before,
     )
 
--- The step over a use.
-pub uses-step : (rs : List Resolution) (n : NameId) (ts : List Token) (part : Part) (i next : ℕ) (t : Token)
-    → slice_get ts i ≡ Some t → i < part.after
-    → IsNextNumber is_name_use ts (record { first = i + 1; after = part.after }) next
-    → list_any (is_use rs n) (slice_range ts i part.after)
-    ≡ (is_use rs n t || list_any (is_use rs n) (slice_range ts next part.after))
-uses-step rs n ts part i next t here less is = ap (list_any (is_use rs n)) (range-head ts i part.after t here less)
-    ∙ ap (λ b. is_use rs n t || b) (uses-from-next rs n ts (record { first = i + 1; after = part.after }) next is)
+-- The step over a use: token m, the first one in the index from a token on.
+pub uses-over : (rs : List Resolution) (n : NameId) (ts : List Token) (from after m : ℕ) (t : Token) (xs : List ℕ)
+    → token_numbers is_name_use from (drop from ts) ≡ m ∷ xs → m < after → slice_get ts m ≡ Some t
+    → list_any (is_use rs n) (slice_range ts from after)
+    ≡ (is_use rs n t || list_any (is_use rs n) (slice_range ts (m + 1) after))
+uses-over rs n ts from after m t xs head less here =
+    let part : Part = record { first = from; after = after } in
+    uses-from-next rs n ts part m (next-first is_name_use ts part m xs head less)
+    ∙ ap (list_any (is_use rs n)) (range-head ts m after t here less)
+
+-- The entries after this one are those of the tokens after it.
+pub index-over : (ts : List Token) (from m : ℕ) (xs : List ℕ) → token_numbers is_name_use from (drop from ts) ≡ m ∷ xs
+    → xs ≡ token_numbers is_name_use (m + 1) (drop (m + 1) ts)
+index-over ts from m xs head =
+    let k = m - from in
+    let place : m ≡ from + k = omega (arith, first-low is_name_use from m (drop from ts) xs head) in
+    next-rest is_name_use from m k (drop from ts) xs head place
+    ∙ ap (token_numbers is_name_use (m + 1))
+    (drop-drop (k + 1) from ts ∙ ap (λ i. drop i ts) (omega (arith, place)))
+
+-- No token uses a name before the first index entry.
+pub uses-end : (rs : List Resolution) (n : NameId) (ts : List Token) (from after : ℕ) → from ≤ after
+    → BeginsFrom after (token_numbers is_name_use from (drop from ts))
+    → list_any (is_use rs n) (slice_range ts from after) ≡ false
+uses-end rs n ts from after le begins =
+    let part : Part = record { first = from; after = after } in
+    uses-from-next rs n ts part after (none-found is_name_use ts part le begins)
+    ∙ ap (list_any (is_use rs n)) (range-none ts after after (omega arith))
 
 -- One more part.
 pub used-here : (rs : List Resolution) (n : NameId) (p : spec.Part) (ps : List spec.Part) (was now : Bool)

@@ -8,14 +8,15 @@ use crate::known::KnownNames;
 use crate::name::{How, NameId, NameKind};
 use crate::resolution::{Resolutions, resolve_all, resolved_at};
 use crate::strings::StringList;
+use crate::tokens::unaligned::Unaligned;
 use indexmap::IndexSet;
 use std::alloc::{AllocError, Global};
 use std::marker::Model;
 
-/// An occurrence with the number of its spelling.
+/// An occurrence with the number of its spelling. It takes six bytes, since the number needs no alignment.
 #[derive(Clone, Copy)]
 pub struct OccurrenceRecord {
-    pub spelling: u32,
+    pub spelling: Unaligned,
     pub how: How,
     pub is_file: bool,
 }
@@ -55,7 +56,8 @@ impl Occurrences {
         requires { number < length self.now }
         ensures { option_map occurrence_text (slice_get self.now number) ≡ Some result.now }
     {
-        self.strings.string(self.records[number].spelling as usize)
+        self.strings
+            .string(self.records[number].spelling.get() as usize)
     }
 
     /// The number of bytes of all spellings, each counted once.
@@ -138,7 +140,7 @@ fn number_in(
 {
     match occurrence.how {
         How::Full => {
-            let (number, _) = names.insert_full(occurrence.spelling)?;
+            let (number, _) = names.insert_full(occurrence.spelling.get())?;
             Ok(Ok(NameId(number as u32)))
         }
         How::Prefix => Ok(Err(NameKind::NeverFull)),

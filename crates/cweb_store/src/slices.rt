@@ -9,7 +9,7 @@ use std::marker::Model;
 #[derive(Drop)]
 pub struct StringSlices<'a> {
     pub(crate) bytes: &'a [u8],
-    pub(crate) offsets: &'a [usize],
+    pub(crate) offsets: &'a [u32],
     pub(crate) edges: &'a [Edge],
 }
 
@@ -35,8 +35,8 @@ impl<'a> StringSlices<'a> {
     {
         // the length bounds `number + 1`
         let _offsets = self.offsets.len();
-        let begin = self.offsets[number];
-        let end = self.offsets[number + 1];
+        let begin = self.offsets[number] as usize;
+        let end = self.offsets[number + 1] as usize;
         &self.bytes[begin..end]
     }
 

@@ -2,7 +2,10 @@
 ghost use Rattle.std.specs.Prelude.{◌≡◌, IfOk};
 ghost use Rattle.cweb_rules.specs.Bytes as bytes;
 ghost use Rattle.cweb_store.specs.Names.{is_abbreviation};
+ghost use Rattle.cweb_rules.specs.inner.LineItems.{IsSizeIn};
 ghost use Rattle.cweb_store.specs.inner.Squeezing as spec;
+ghost use Rattle.cweb_store.specs.inner.Squeezing.{is_in_word};
+ghost use Rattle.std.specs.List.{prefix_len};
 ghost use Rattle.cweb_store.specs.Names as base;
 
 use std::alloc::{AllocError, Global};
@@ -33,26 +36,37 @@ pub fn squeezed(alloc: Global, text: &[u8]) -> Result<Vec<u8>, AllocError>
     Ok(name)
 }
 
-/// Whether a name isn't empty and `squeezed` would leave it unchanged.
+// The number of bytes before white space.
+#[inline(always)]
+fn word_len(text: &[u8]) -> usize
+    ensures { IsSizeIn (prefix_len is_in_word) text.now result }
+{
+    for (i, byte) in text.iter().enumerate() {
+        if is_white(*byte) {
+            return i;
+        }
+    }
+    text.len()
+}
+
+/// Whether a name isn't empty and `squeezed` would leave it unchanged: it has words with single spaces between them.
 pub fn is_squeezed(text: &[u8]) -> bool
     ensures { result ≡ spec.is_squeezed text.now }
 {
-    let mut before = b' ';
-    for byte in text {
-        if !may_follow(before, *byte) {
+    let mut rest = text;
+    'words: loop {
+        let word = word_len(rest);
+        if word == 0 {
             return false;
         }
-        before = *byte;
+        let Some((next, after)) = rest.split_at(word).1.split_first() else {
+            return true;
+        };
+        if *next != b' ' {
+            return false;
+        }
+        rest = after;
     }
-    before != b' '
-}
-
-// Whether a byte may follow another in a spelling. White space is only single spaces. Mostly the first test decides.
-#[inline(always)]
-fn may_follow(before: u8, byte: u8) -> bool
-    ensures { result ≡ spec.may_follow before byte }
-{
-    byte > b' ' || !is_white(byte) || (byte == b' ' && before != b' ')
 }
 
 /// Whether a name is an abbreviation: it is longer than three bytes and ends in `...`.

@@ -4,7 +4,7 @@ ghost use Rattle.cweb_store.specs.inner.Words.{key_of};
 ghost use Rattle.cweb_store.specs.inner.StringTables.{AreByteIds, IsByteId, InternsWord, StringTableModel, TakesString};
 ghost use Rattle.cweb_store.specs.inner.StringTables.{TakesWord, empty_table, has_word, string_limit};
 
-use crate::strings::StringList;
+use crate::strings::{Interned, StringList};
 use crate::words::intern_sorted;
 use crate::words::key::{KEY_BYTES, Key};
 use crate::words::table::WordTable;
@@ -79,7 +79,7 @@ impl StringTable {
         let key = Key::of(word);
         match self.table.latest(key) {
             Some(latest) if latest.is_short(key, word) => Ok(latest.number),
-            _ => self.intern_uncached(key, word),
+            _ => self.intern_uncached(Interned::Word, key, word),
         }
     }
 
@@ -112,7 +112,7 @@ impl StringTable {
         requires few { length self.old.strings + 1 < string_limit }
         ensures { TakesWord self.old word.now result self.new }
     {
-        let number = self.intern_uncached(Key::of(word), word)?;
+        let number = self.intern_uncached(Interned::Word, Key::of(word), word)?;
         if let [byte] = word {
             self.begin();
             set_byte_id(&mut self.byte_ids, *byte, number);
@@ -138,12 +138,20 @@ impl StringTable {
         requires few { length self.old.strings + 1 < string_limit }
         ensures { TakesWord self.old word.now result self.new }
     {
-        self.intern_uncached(Key::of(word), word)
+        self.intern_uncached(Interned::Word, Key::of(word), word)
+    }
+
+    /// Interns the spelling of a name as `intern_word` does. Most are long, and no edge is stored.
+    pub fn intern_spelling(&mut self, spelling: &[u8]) -> Result<u32, AllocError>
+        requires few { length self.old.strings + 1 < string_limit }
+        ensures { TakesWord self.old spelling.now result self.new }
+    {
+        self.intern_uncached(Interned::Spelling, Key::of(spelling), spelling)
     }
 
     // Interns a word that the fast path did not find.
     #[inline(never)]
-    fn intern_uncached(&mut self, key: Key, word: &[u8]) -> Result<u32, AllocError>
+    fn intern_uncached(&mut self, kind: Interned, key: Key, word: &[u8]) -> Result<u32, AllocError>
         requires key { key ≡ key_of word.now }
         requires few { length self.old.strings + 1 < string_limit }
         ensures { TakesWord self.old word.now result self.new }
@@ -158,17 +166,17 @@ impl StringTable {
         if let Some(number) = self.sorted.get(word).copied() {
             return Ok(number);
         }
-        self.add_new_word(key, word)
+        self.add_new_word(kind, key, word)
     }
 
     // Adds a word that is not interned yet to the table.
-    fn add_new_word(&mut self, key: Key, word: &[u8]) -> Result<u32, AllocError>
+    fn add_new_word(&mut self, kind: Interned, key: Key, word: &[u8]) -> Result<u32, AllocError>
         requires key { key ≡ key_of word.now }
         requires few { length self.old.strings + 1 < string_limit }
         requires absent { has_word self.old word.now ≡ false }
         ensures { TakesWord self.old word.now result self.new }
     {
-        let number = self.strings.add_word(word)?;
+        let number = self.strings.add_interned(kind, word)?;
         if self.table.push(key, word.len(), number as u32) {
             return Ok(number as u32);
         }

@@ -1,5 +1,5 @@
 // Strings in one byte buffer.
-ghost use Rattle.std.specs.Prelude.{◌≡◌, ◌<◌, ◌+◌, ◌^◌, [], List, ℕ, length, drop, take, slice_get, Some, OnOk};
+ghost use Rattle.std.specs.Prelude.{◌≡◌, ◌<◌, ◌+◌, ◌^◌, [], List, ℕ, length, drop, take, slice_get, Some, IfOk, OnOk};
 ghost use Rattle.cweb_store.specs.inner.StringLists.{IsStoredEdge, IsFromStart, TakesNext, text_bytes};
 
 use crate::edges::{Edge, string_edge};
@@ -7,12 +7,22 @@ use crate::slices::StringSlices;
 use std::alloc::{AllocError, Global};
 use std::marker::Model;
 
-/// Strings, numbered from 0, one after another in one buffer. A word has its edge beside it.
+/// What a string is interned for.
+#[derive(Clone, Copy)]
+pub enum Interned {
+    /// For tokens: the printer asks for its edge.
+    Word,
+    /// For names: it is never printed.
+    Spelling,
+}
+
+/// Strings, numbered from 0, one after another in one buffer. A word has its edge beside it. All strings together have
+/// less than 4 GiB, which is four times what a web may have: so an offset takes four bytes.
 #[derive(Drop)]
 pub struct StringList {
     bytes: Vec<u8>,
     // the start of the first string, and the end of each, where the next one starts. Empty before the first string
-    offsets: Vec<usize>,
+    offsets: Vec<u32>,
     edges: Vec<Edge>,
 }
 
@@ -47,7 +57,7 @@ impl StringList {
         self.edges.len()
     }
 
-    /// Appends a string without an edge, and returns its number.
+    /// Appends a string without an edge, and returns its number. It is refused if there is no memory or no offset for it.
     pub fn add(&mut self, string: &[u8]) -> Result<usize, AllocError>
         ensures { TakesNext self.old string.now result self.new }
     {
@@ -61,16 +71,27 @@ impl StringList {
         self.add_with_edge(word, string_edge(word))
     }
 
+    /// Appends a string that is interned, and returns its number.
+    pub fn add_interned(&mut self, kind: Interned, string: &[u8]) -> Result<usize, AllocError>
+        ensures { TakesNext self.old string.now result self.new }
+    {
+        match kind {
+            Interned::Word => self.add_word(string),
+            Interned::Spelling => self.add(string),
+        }
+    }
+
     fn add_with_edge(&mut self, string: &[u8], edge: Edge) -> Result<usize, AllocError>
         requires { IsStoredEdge string.now edge }
         ensures { TakesNext self.old string.now result self.new }
     {
+        let end = offset_of(self.bytes.len() + string.len())?;
         begin(&mut self.offsets)?;
         self.offsets.reserve(1)?;
         self.edges.reserve(1)?;
         self.bytes.extend_from_slice(string)?;
         let number = self.edges.len();
-        self.offsets.push_reserved(self.bytes.len());
+        self.offsets.push_reserved(end);
         self.edges.push_reserved(edge);
         Ok(number)
     }
@@ -83,7 +104,7 @@ impl StringList {
     {
         // the length bounds `count + 1`
         let _offsets = self.offsets.len();
-        self.bytes.truncate(self.offsets[count]);
+        self.bytes.truncate(self.offsets[count] as usize);
         self.offsets.truncate(count + 1);
         self.edges.truncate(count);
     }
@@ -117,8 +138,19 @@ impl StringList {
     }
 }
 
+// The offset after so many bytes.
+#[inline(always)]
+fn offset_of(bytes: usize) -> Result<u32, AllocError>
+    ensures { IfOk result (λ offset. offset ≡ bytes) }
+{
+    if bytes > u32::MAX as usize {
+        return Err(AllocError);
+    }
+    Ok(bytes as u32)
+}
+
 // Records the start of the first string, unless it is there.
-fn begin(offsets: &mut Vec<usize>) -> Result<(), AllocError>
+fn begin(offsets: &mut Vec<u32>) -> Result<(), AllocError>
     requires { IsFromStart offsets.old.items }
     ensures begun { OnOk result (0 < length offsets.new.items) }
     ensures start { IsFromStart offsets.new.items }

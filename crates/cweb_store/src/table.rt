@@ -5,6 +5,7 @@ ghost use Rattle.cweb_store.specs.surface.Tokens.{occurrence_of, too_many};
 use crate::name::{How, NameRef};
 use crate::occurrences::{OccurrenceRecord, Occurrences};
 use crate::string_table::StringTable;
+use crate::tokens::unaligned::Unaligned;
 use std::alloc::{AllocError, Global};
 use std::marker::Model;
 
@@ -58,9 +59,9 @@ impl NameTable {
     {
         self.records.reserve(1)?;
         let number = self.records.len();
-        let spelling = self.strings.intern_word(name)?;
+        let spelling = self.strings.intern_spelling(name)?;
         self.records.push_reserved(OccurrenceRecord {
-            spelling,
+            spelling: Unaligned::of(spelling),
             how,
             is_file,
         });

@@ -1,5 +1,5 @@
 -- Nonempty spellings that squeezing leaves unchanged.
-use Rattle.std.specs.Prelude.{ℕ, Bool, true, false, ◌&&◌, ◌||◌, ◌==◌, not, List, [], ◌∷◌}
+use Rattle.std.specs.Prelude.{ℕ, Bool, true, false, ◌&&◌, ◌==◌, not, List, [], ◌∷◌}
 use Rattle.cweb_rules.specs.Bytes.{is_white}
 
 -- White space is only single spaces, each before another byte. `gap`: no space may come next.
@@ -13,6 +13,6 @@ is_squeezed_after gap (b ∷ t) = elim (is_white b) [
 abbrev pub is_squeezed : List ℕ → Bool
 is_squeezed t = is_squeezed_after true t
 
--- White space may follow a byte only as a single space.
-abbrev pub may_follow : ℕ → ℕ → Bool
-may_follow before b = not (is_white b) || ((b == 32) && not (before == 32))
+-- a byte of a word of a name
+abbrev pub is_in_word : ℕ → Bool
+is_in_word b = not (is_white b)

@@ -3,6 +3,7 @@ use Rattle.std.specs.Prelude.{ℕ, ◌<◌, ◌+◌, ◌-◌, ◌*◌, ◌/◌, 
 use Rattle.std.specs.Prelude.{slice_index_or, if◌then◌else◌, bit_xor, ◌≡◌, Bool, true, [], ◌∷◌, ◌++◌, map, slice_get}
 use Rattle.std.specs.Prelude.{bytes_eq, Some, Vec, suc, ◌≤◌, filter, nat_eq}
 use Rattle.std.specs.Int.{w32, w64, from_le_bytes}
+use Rattle.std.specs.Simd.{first_chunks}
 use Rattle.cweb_store.specs.declared.words.key.Key.{Key}
 use Rattle.std.specs.List.{list_any}
 use Rattle.std.specs.BTreeMap.{insert_entry}
@@ -35,9 +36,11 @@ long_key word = record {
   last = from_le_bytes w64 (drop (length word - 8) word);
 }
 
--- all bytes of a word, mixed into one number
+-- The whole groups of eight bytes of a word, mixed into one number. The last eight bytes, which the key has too, cover
+-- the bytes after them.
 unfoldable pub hash_of : List ℕ → ℕ
-hash_of word = fold (λ hash byte. ((hash * 0x9E3779B97F4A7C15) % 2 ^ 64 + byte) % 2 ^ 64) 0 word
+hash_of word = fold (λ hash group. ((hash * 0x9E3779B97F4A7C15) % 2 ^ 64 + from_le_bytes w64 group) % 2 ^ 64) 0
+    (first_chunks 8 (length word / 8) word)
 
 abbrev pub hashed_key : List ℕ → Key
 hashed_key word = record {
@@ -46,7 +49,7 @@ hashed_key word = record {
 }
 
 -- Up to 16 bytes: the first bytes of a word and its last bytes as numbers, eight of each, or four, or what there is.
--- A longer word has the hash of all its bytes instead of its first ones: long words often begin and end alike.
+-- A longer word has a hash instead of its first bytes: long words often begin and end alike.
 unfoldable pub key_of : List ℕ → Key
 key_of word =
     if nat_lt (length word) 4 then short_key word

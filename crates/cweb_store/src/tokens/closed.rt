@@ -10,7 +10,7 @@ ghost use Rattle.cweb_store.specs.inner.Records.{IsNextNumber, is_name_use};
 use crate::resolution::resolved_at;
 use crate::strings::StringList;
 use crate::tokens::records::{Record, token_at};
-use crate::tokens::token_index::{TokenIndex, next_in_range};
+use crate::tokens::token_index::{TokenIndex, next_in_range, numbers_from};
 use crate::{NameId, NameKind, Part, Token, TokenReader};
 use cweb_files::Place;
 use std::marker::Model;
@@ -107,14 +107,13 @@ impl ClosedTokens {
             (λ n. list_any (is_use resolutions.now n) (slice_range self.now part.first part.after))
             used.old used.new }
     {
-        let mut next = self.next_use(part);
-        'uses: while next < part.after {
-            flag_use(self.token(next as usize), resolutions, used);
-            let rest = Part {
-                first: next + 1,
-                after: part.after,
-            };
-            next = self.next_use(rest);
+        let mut rest = numbers_from(self.token_index.uses.as_slice(), part.first);
+        'uses: while let Some((number, later)) = rest.split_first() {
+            if *number >= part.after {
+                return;
+            }
+            flag_use(self.token(*number as usize), resolutions, used);
+            rest = later;
         }
     }
 

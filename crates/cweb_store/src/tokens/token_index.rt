@@ -1,5 +1,6 @@
 // The indices of tokens that are searched for later.
-ghost use Rattle.std.specs.Prelude.{◌≡◌, ◌≤◌, [], Bool, List, nat_lt, take, vec_capacity};
+ghost use Rattle.std.specs.Prelude.{◌≡◌, ◌≤◌, [], Bool, List, drop, length, nat_lt, take};
+ghost use Rattle.std.specs.Prelude.{vec_capacity};
 ghost use Rattle.std.specs.List.{prefix_len};
 ghost use Rattle.std.specs.List.Sorted.{IsNonDecreasing};
 ghost use Rattle.cweb_store.specs.Parts as spec;
@@ -40,6 +41,15 @@ impl TokenIndex {
     }
 }
 
+/// The entries of the tokens from this one on.
+pub fn numbers_from(numbers: &[u32], first: u32) -> &[u32]
+    ensures { (test : spec.Token → Bool) → (tokens : List spec.Token)
+        → numbers.now ≡ token_numbers test 0 tokens
+        → result.now ≡ token_numbers test first (drop first tokens) }
+{
+    numbers.split_at(count_below(numbers, first as usize)).1
+}
+
 /// The first of `numbers` that is in a part, or the end of the part if there is none.
 pub fn next_in_range(numbers: &[u32], part: Part) -> u32
     requires { part.first ≤ part.after }
@@ -57,7 +67,8 @@ pub fn next_in_range(numbers: &[u32], part: Part) -> u32
 
 // The number of entries below a bound. The entries are sorted.
 fn count_below(numbers: &[u32], bound: usize) -> usize
-    ensures { IsNonDecreasing numbers.now
+    ensures within { result ≤ length numbers.now }
+    ensures count { IsNonDecreasing numbers.now
         → result ≡ prefix_len (λ number. nat_lt number bound) numbers.now }
 {
     numbers.partition_point(|number| (*number as usize) < bound)

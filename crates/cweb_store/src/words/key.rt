@@ -4,7 +4,8 @@ ghost use Rattle.std.specs.Int.{w32, w64, from_le_bytes};
 ghost use Rattle.cweb_store.specs.inner.Words.{key_of, hash_of, home_bucket_of, key_hash};
 
 /// The first bytes of a word and its last bytes, as two numbers. With the length they determine a word of at most
-/// 16 bytes. In the key of a longer word the first number is a hash of all bytes.
+/// 16 bytes. In the key of a longer word the first number is a hash of its groups of eight bytes, so that each byte
+/// counts in one of the two numbers.
 #[derive(Clone, Copy)]
 pub struct Key {
     /// The number that the first bytes make, or the hash of a long word.
@@ -57,12 +58,14 @@ impl Key {
     }
 }
 
-// All bytes of a word, mixed into one number.
+// The whole groups of eight bytes of a word, mixed into one number.
 fn hash(word: &[u8]) -> u64
     ensures { result ≡ hash_of word.now }
 {
-    word.iter().fold(0, |hash: u64, byte| {
-        hash.wrapping_mul(HASH_FACTOR).wrapping_add(*byte as u64)
+    let (groups, _) = word.as_chunks::<8>();
+    groups.iter().fold(0, |hash: u64, group| {
+        hash.wrapping_mul(HASH_FACTOR)
+            .wrapping_add(u64::from_le_bytes(*group))
     })
 }
 

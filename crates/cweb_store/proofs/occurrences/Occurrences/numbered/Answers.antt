@@ -1,7 +1,5 @@
-use Rattle.cweb_store.proofs.Common.{false, Full}
+use Rattle.cweb_store.proofs.Common.{Some, ap, sym, ◌∙◌}
 use Rattle.std.proofs.lemmas.Option.{slice_get-get_or}
-use Rattle.std.specs.Prelude.{slice_index_or}
-use Rattle.cweb_store.specs.declared.occurrences.OccurrenceRecord.{OccurrenceRecord}
 use Rattle.cweb_store.proofs.NumberLemmas.{numbered-next}
 use Rattle.cweb_store.proofs.occurrences.Occurrences.numbered.Goals as goal
 
@@ -10,8 +8,7 @@ loop-occurrence-preserved c = λ strings table.
     let l = c.loop-occurrence in
     let rs = c.deref-occurrence-items.result.now in
     let i = l.occurrence-index in
-    let none : OccurrenceRecord = record { spelling = 0; how = Full; is_file = false } in
-    let there = slice_get-get_or rs i none c.loop-occurrence-test.true in
+    let there = slice_get-get_or rs i c.occurrence-item.result c.loop-occurrence-test.true ∙ ap Some (sym c.occurrence-item.is) in
     rw (c.in_ok-push.ensures.items, c.in_ok-number_in.ensures.names)
-    (numbered-next strings rs i l.names.keys l.all.items (slice_index_or rs i none) c.in_ok-number_in.field-0 table
+    (numbered-next strings rs i l.names.keys l.all.items c.occurrence-item.result c.in_ok-number_in.field-0 table
     there (l.invariant strings table) c.in_ok-number_in.ensures.number)

@@ -9,7 +9,7 @@ invariant_of-self-then-push c =
     let word = c.args.word.now in
     let number = c.in_ok-number.number in
     let keeps : InternsWord (table_model s.strings s.table.words s.sorted.entries) word number
-    (table_model c.add_word.new.self c.push.new.self.words s.sorted.entries) =
+    (table_model c.add_interned.new.self c.push.new.self.words s.sorted.entries) =
     grind (
       arith,
       table-keeps s.strings s.table.words c.push.new.self.words s.sorted.entries word number c.self.invariant.interned,
@@ -28,7 +28,7 @@ invariant_of-self-then-push c =
         c.requires.key,
       );
       by_byte = byte_ids-word (table_model s.strings s.table.words s.sorted.entries)
-          (table_model c.add_word.new.self c.push.new.self.words s.sorted.entries) s.byte_ids.items word number keeps
+          (table_model c.add_interned.new.self c.push.new.self.words s.sorted.entries) s.byte_ids.items word number keeps
           c.self.invariant.by_byte;
     }
 

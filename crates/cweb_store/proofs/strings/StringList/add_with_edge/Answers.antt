@@ -11,8 +11,8 @@ invariant_of-self-2 c =
     let offsets = c.begin.new.offsets.items in
     let ends = drop 1 s.offsets.items in
     let edges = s.edges.items in
-    let size : c.len.result ≡ length (bytes ++ string) =
-    c.len.ensures ∙ c.extend_from_slice.new.self.ok.0 ∙ ap length c.in_ok-extend_from_slice.ensures.items in
+    let size : c.in_ok-end.end ≡ length (bytes ++ string) =
+    omega (arith, c.in_ok-end.ensures, c.len.ensures, s.bytes.ok.0, length-append bytes string) in
     let longer : length bytes ≤ length (bytes ++ string) = omega (arith, length-append bytes string) in
     let some : 0 < length offsets = c.in_ok-begin.ensures.begun in
     let all : drop 1 (offsets ++ length (bytes ++ string) ∷ []) ≡ ends ++ length (bytes ++ string) ∷ [] =
@@ -42,8 +42,8 @@ returns c =
     let s = c.self.inside in
     let bytes = s.bytes.items in
     let string = c.args.string.now in
-    let size : c.len.result ≡ length (bytes ++ string) =
-    c.len.ensures ∙ c.extend_from_slice.new.self.ok.0 ∙ ap length c.in_ok-extend_from_slice.ensures.items in
+    let size : c.in_ok-end.end ≡ length (bytes ++ string) =
+    omega (arith, c.in_ok-end.ensures, c.len.ensures, s.bytes.ok.0, length-append bytes string) in
     let added = strings-push bytes string 0 (drop 1 s.offsets.items) c.self.invariant.ends_at in
     record {
       number = c.len-number.ensures ∙ c.in_ok-reserve-2.ensures.len ∙ s.edges.ok.0

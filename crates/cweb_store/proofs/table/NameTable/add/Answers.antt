@@ -4,8 +4,8 @@ use Rattle.cweb_store.specs.declared.occurrences.OccurrenceRecord.{OccurrenceRec
 use Rattle.cweb_store.specs.inner.Known.{occurrence_at}
 use Rattle.cweb_store.proofs.table.NameTable.add.Goals as goal
 
-pub intern_word-requires : goal.intern_word-requires
-intern_word-requires c =
+pub intern_spelling-requires : goal.intern_spelling-requires
+intern_spelling-requires c =
     let s = c.self.inside in
     omega (
       arith,
@@ -27,8 +27,8 @@ invariant_of-self-2 c =
       ap length c.self.view_is,
       length-map s.records.items (occurrence_at s.strings.strings),
     ) in
-    rw (c.push_reserved.ensures.items, c.in_ok-reserve.ensures.items)
-    (added-are s.strings c.intern_word.new.self s.records.items c.args.name.now r c.self.invariant
+    rw (c.push_reserved.ensures.items, c.in_ok-reserve.ensures.items, c.of.ensures)
+    (added-are s.strings c.intern_spelling.new.self s.records.items c.args.name.now r c.self.invariant
     c.in_ok-spelling.ensures few)
 
 pub returns-clause-number : goal.returns-clause-number
@@ -47,6 +47,6 @@ returns-clause-added c =
     let s = c.self.inside in
     let spelling = c.in_ok-spelling.spelling in
     let r : OccurrenceRecord = record { spelling = spelling; how = c.args.how; is_file = c.args.is_file } in
-    rw (c.push_reserved.ensures.items, c.in_ok-reserve.ensures.items, ← c.self.view_is)
-    (added-is s.strings c.intern_word.new.self s.records.items c.args.name.now r c.self.invariant
+    rw (c.push_reserved.ensures.items, c.in_ok-reserve.ensures.items, c.of.ensures, ← c.self.view_is)
+    (added-is s.strings c.intern_spelling.new.self s.records.items c.args.name.now r c.self.invariant
     c.in_ok-spelling.ensures)

@@ -4,8 +4,8 @@ use Rattle.std.proofs.lemmas.List.Sorted.{IsPartitionPoint-from_clause, IsPartit
 use Rattle.cweb_store.proofs.TokenIndexLemmas.{point-is}
 use Rattle.cweb_store.proofs.tokens.token_index.count_below.Goals as goal
 
-pub returns : goal.returns
-returns c = λ rise.
+pub returns-clause-count : goal.returns-clause-count
+returns-clause-count c = λ rise.
     let bound = c.args.bound in
     let parted = IsPartitionedBy-ltb (λ x. x) c.args.numbers.now bound rise in
     let point = IsPartitionPoint-from_clause (λ x. ltb x bound) c.args.numbers.now

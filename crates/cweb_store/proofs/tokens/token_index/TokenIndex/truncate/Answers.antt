@@ -6,7 +6,7 @@ pub returns-clause-index : goal.returns-clause-index
 returns-clause-index c = λ tokens are.
     let n = c.args.count in
     record {
-      uses = grind (arith, index-cut, c.truncate.ensures.items, c.as_slice.ensures.value, c.count_below-uses.ensures);
+      uses = grind (arith, index-cut, c.truncate.ensures.items, c.as_slice.ensures.value, c.count_below-uses.ensures.count);
       defs =
-          grind (arith, index-cut, c.truncate-2.ensures.items, c.as_slice-2.ensures.value, c.count_below-defs.ensures);
+          grind (arith, index-cut, c.truncate-2.ensures.items, c.as_slice-2.ensures.value, c.count_below-defs.ensures.count);
     }

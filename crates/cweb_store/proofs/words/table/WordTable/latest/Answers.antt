@@ -1,4 +1,4 @@
-use Rattle.cweb_store.proofs.Common.{arith, ◌≡◌, ◌<◌, ℕ, List, Option, Some, None, IfSome, length, get_or, slice_get, slice_get-get_or, sym, ◌∙◌, ap, ltb-true}
+use Rattle.cweb_store.proofs.Common.{◌≡◌, ℕ, List, Option, Some, None, IfSome, length, get_or, slice_get, slice_get-get_or, sym, ◌∙◌, ap, ltb-true}
 use Rattle.std.specs.Option.{is_some}
 use Rattle.std.specs.Prelude.{nat_lt}
 use Rattle.cweb_store.specs.declared.words.word.Word.{Word}
