@@ -1,6 +1,6 @@
 -- Lines that come next in the buffers, and calls that take some of them or none.
-use Rattle.cweb_lines.proofs.Common.{◌≡◌, ◌<◌, ◌≤◌, ◌+◌, ℕ, Bool, true, false, List, [], ◌∷◌, ◌++◌, Option, Some, None, Result, Ok, IfSome, refl, sym, ◌∙◌, ap, subst, arith, length, length-append, append-nil, append_cancel_right, trimmed, is_include_line, IsStretchAt, IsStretchOf, Reaches, PassesSlot, LINE_LENGTH, stretch_bytes, with_newlines, sources_next, source_depth, matches_at, number_or_zero, lines_at, CountsLine, counters_of, TakenCounters, Stretch, OpenSource, AppendsPassedLines, AreReadersKnown, MergeState, EmitsLines, so_far_of, events_to_come, Place, Thing, raws, raw, LineAt}
-use Rattle.cweb_lines.specs.inner.OpenSources.{DeepAt, TakesFirst}
+use Rattle.cweb_lines.proofs.Common.{◌≡◌, ◌<◌, ◌≤◌, ◌+◌, ℕ, Bool, true, false, List, [], ◌∷◌, Option, Some, None, Result, Ok, IfSome, refl, sym, ◌∙◌, ap, subst, arith, length, length-append, append-nil, append_cancel_right, trimmed, is_include_line, IsStretchAt, IsStretchOf, Reaches, PassesSlot, stretch_bytes, with_newlines, source_depth, number_or_zero, lines_at, CountsLine, counters_of, TakenCounters, Stretch, OpenSource, AppendsPassedLines, AreReadersKnown, MergeState, EmitsLines, so_far_of, events_to_come, Place}
+use Rattle.cweb_lines.specs.inner.OpenSources.{DeepAt}
 use Rattle.cweb_lines.specs.inner.PassingChanges.{IsNextLine, PassesChange, PassesSilently, place_next}
 use Rattle.cweb_lines.proofs.Passes.{passes_none}
 
@@ -15,10 +15,6 @@ module _ {R : Type 0} (s : Stretch) (bytes : List ℕ) where
       → is_include_line (stretch_bytes slot s) ≡ false
   plain_text None next = absurd next
   plain_text (Some text) next = ap is_include_line (text_is (Some text) next) ∙ next.is.passing.0.plain
-
-  pub short_line : (slot : Option (OpenSource R)) → IsStretchAt None slot s (bytes ∷ []) → length bytes ≤ LINE_LENGTH
-  short_line None next = absurd next
-  short_line (Some text) next = next.is.passing.0.short
 
   abbrev counted : (text : OpenSource R) (before after : TakenCounters) → IsStretchAt None (Some text) s (bytes ∷ [])
       → after.lines ≡ before.lines + length (bytes ∷ []) → after.bytes ≡ before.bytes + length (with_newlines (bytes ∷ []))
@@ -43,31 +39,6 @@ module _ {R : Type 0} (s : Stretch) (bytes : List ℕ) where
   line_taken None slot' before after next passes left = absurd next
   line_taken (Some text) slot' before after next passes left =
       (counted text before after next passes.few passes.bytes (place_next (Some text)) refl, passes.takes left)
-
-  pub first_taken : (slot : Option (OpenSource R)) (before after : TakenCounters) (at : LineAt) (old new : List Thing)
-      → IsStretchAt None slot s (bytes ∷ []) → after.lines ≡ before.lines + length (bytes ∷ [])
-      → after.bytes ≡ before.bytes + length (with_newlines (bytes ∷ [])) → at.place ≡ place_next slot
-      → at.depth ≡ number_or_zero source_depth slot → at.may_match ≡ matches_at slot
-      → old ≡ raws (number_or_zero source_depth slot) (matches_at slot) (sources_next slot (bytes ∷ [])) ++ new
-      → TakesFirst old (Some at) (stretch_bytes slot s) new (counters_of before) (counters_of after)
-  first_taken None before after at old new next few size place depth matches is = absurd next
-  first_taken (Some text) before after at old new next few size place depth matches is =
-      let t = counted text before after next few size at.place place in (
-        t,
-        is ∙ (λ i. raw (record { source = t.line; depth = sym depth i; may_match = sym matches i }) ∷ new),
-      )
-
--- The same slot, read with another default.
-pub first_taken_in : {R : Type 0} (s : Stretch) (bytes : List ℕ) (slot read : Option (OpenSource R))
-    (before after : TakenCounters) (at : LineAt) (old new : List Thing) → slot ≡ read
-    → IsStretchAt None slot s (bytes ∷ []) → after.lines ≡ before.lines + length (bytes ∷ [])
-    → after.bytes ≡ before.bytes + length (with_newlines (bytes ∷ [])) → at.place ≡ place_next read
-    → at.depth ≡ number_or_zero source_depth read → at.may_match ≡ matches_at read
-    → old ≡ raws (number_or_zero source_depth slot) (matches_at slot) (sources_next slot (bytes ∷ [])) ++ new
-    → TakesFirst old (Some at) (stretch_bytes slot s) new (counters_of before) (counters_of after)
-first_taken_in s bytes slot read before after at old new same next few size place depth matches is =
-    first_taken s bytes slot before after at old new next few size (place ∙ ap place_next (sym same))
-    (depth ∙ ap (number_or_zero source_depth) (sym same)) (matches ∙ ap matches_at (sym same)) is
 
 pub deep_enough : {R : Type 0} (slot : Option (OpenSource R)) (s : Stretch) (lines : List (List ℕ)) (place : ℕ)
     → IsStretchAt None slot s lines → DeepAt place slot → place + 1 ≤ number_or_zero source_depth slot

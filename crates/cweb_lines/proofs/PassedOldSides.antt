@@ -1,142 +1,180 @@
--- An old side of one line that is taken from the buffers.
-use Rattle.cweb_lines.proofs.Common.{◌≡◌, ◌-◌, ℕ, Bool, true, false, List, [], ◌∷◌, ◌++◌, Option, Some, None, Result, refl, sym, ◌∙◌, ap, subst, arith, append-nil, bytes_eq, change_code, begun_by, stretch_bytes, top_of, lines_at, CountsLine, counters_of, TakenCounters, Stretch, MergeState, EmitsLines, so_far_of, events_to_come, events_after_line, opened_file_names, things_of, pending_of, pending_in, change_in, floor_of, TakesAbove, StaysBelow, if◌then◌else◌, change_lines, Place, SourceLine, Thing, OldSide, old_lines, Event, seek, things_above, Changing, Change, Waiting, LineAt, IsChanged, Replaces, IsReplaced, Replaced, IsSettled, SoFar, Stack, after_old, change_events, closing_faults, fault, map, new_lines, things_below, things_in, things_over}
+-- An old side that is taken from the buffers.
+use Rattle.cweb_lines.proofs.Common.{◌≡◌, ◌<◌, ◌+◌, ◌-◌, ℕ, Bool, true, List, [], ◌∷◌, ◌++◌, Option, Some, None, Result, refl, sym, ◌∙◌, ap, subst, arith, length, append-nil, map, change_code, top_of, TakenCounters, Stretch, MergeState, EmitsLines, so_far_of, events_to_come, opened_file_names, optional_string_bytes, world_in, World, WaitingEntry, change_lines, Place, SourceLine, Thing, raws, OldSide, old_lines, Event, took, size_of_lines, AreShort, seek, things_above, Changing, Change, Waiting, OpenSource, after_old, change_events, closing_faults, fault, merge, new_lines, things_below, things_in, things_over, line_with_newline, numbered_lines, trimmed, sources_next, source_depth, matches_at, number_or_zero, IsStretchAt, PassesSlot, PassesTop, AllByRecursion, AreReadersKnown, length-append}
 use Rattle.cweb_lines.specs.declared.change.code.Code.TheVariants.{NewSide as new_side}
-use Rattle.cweb_lines.specs.inner.PassingChanges.{PassesSilently, TakesChangeLine, TakesTopLine, place_next}
-use Rattle.cweb_lines.proofs.Replaces.{replaces_new}
-use Rattle.cweb_lines.proofs.ReadersStayNamed.{knows_same}
-use Rattle.cweb_lines.proofs.ReportsOnlyGrow.{took_faults, took_names}
-use Rattle.cweb_lines.proofs.SourceStacks.{over-none}
-use Rattle.cweb_lines.proofs.Turns.{began_yields, raw_taken}
+use Rattle.cweb_lines.specs.inner.PassingChanges.{PassesSilently}
+use Rattle.cweb_lines.proofs.EqualOldSides.{Equals, Takes, TakesSide, equal_bytes, equals, takes_side}
+use Rattle.cweb_lines.proofs.Merges.{state}
+use Rattle.cweb_lines.proofs.MergeStateEvents.{coming_of}
 use Rattle.cweb_lines.proofs.NextLines.{silent}
+use Rattle.cweb_lines.proofs.Passes.{next-length, next-short, next-size}
+use Rattle.cweb_lines.proofs.SourceStacks.{over-none}
+use Rattle.cweb_lines.proofs.Turns.{begin_step}
 
--- The first old line, with `@y` after it.
-module _ {R : Type 0} (run mid last new : MergeState R) (first turn : Stretch) (at : LineAt) (begin : Place)
-    (top : TakesTopLine run mid first at) (side : TakesChangeLine mid last turn)
-    (waiting : run.stage ≡ Waiting begin) (matches : at.may_match ≡ true)
-    (equal : bytes_eq (stretch_bytes (top_of run.stack) first) run.first.items ≡ true)
-    (turns : change_code (stretch_bytes mid.change turn) ≡ Some new_side)
-    (stage : new.stage ≡ Changing (record { begin = begin; below = last.stack.depth; depth = at.depth }))
-    (inputs : new.inputs ≡ last.inputs) (names : new.names ≡ last.names) (stack : new.stack ≡ last.stack)
-    (change : new.change ≡ last.change) (limits : new.limits ≡ last.limits) (faults : new.faults ≡ last.faults) where
-  abbrev first_bytes : List ℕ
-  first_bytes = stretch_bytes (top_of run.stack) first
+-- The lines of an old side as they are taken: the web's first line, the further ones, and those of the change file.
+record Sides {R : Type 0} (web change : Option (OpenSource R)) (lines side : List (List ℕ))
+    (first : List ℕ) : Type 0 where
+  w : SourceLine
+  rs : List SourceLine
+  is : sources_next web lines ≡ w ∷ rs
+  first_is : w.line.bytes ≡ first
+  equal : Equals (sources_next change side) rs
 
-  begun : begun_by (pending_of mid) at.may_match first_bytes ≡ Some begin
-  begun = (λ i. begun_by (pending_in ((top.only.stage ∙ waiting) i) ((top.only.first i).items)) (matches i) first_bytes)
-      ∙ ap (λ b. if b then Some begin else None) equal
+sides_of : {R : Type 0} (web change : Option (OpenSource R)) (s u : Stretch) (lines olds : List (List ℕ))
+    (turn first : List ℕ) → IsStretchAt None web s lines → IsStretchAt None change u (olds ++ turn ∷ [])
+    → map trimmed lines ≡ first ∷ map trimmed olds
+    → AllByRecursion (λ line. change_code (trimmed line) ≡ None) olds → change_code (trimmed turn) ≡ Some new_side
+    → Sides web change lines (olds ++ turn ∷ []) first
+sides_of None change s u lines olds turn first web_is side_is same plain turns = absurd web_is
+sides_of (Some text) None s u lines olds turn first web_is side_is same plain turns = absurd side_is
+sides_of (Some text) (Some other) s u [] olds turn first web_is side_is same plain turns = absurd (cc)
+sides_of (Some text) (Some other) s u (line ∷ lines) olds turn first web_is side_is same plain turns = record {
+  w = record {
+    line = record { bytes = trimmed line; place = record { file = text.file; line = text.line + 1 } };
+    length = length line;
+    size = length line + 1;
+  };
+  rs = numbered_lines text.file.0 (text.line + 1 + 1) (map line_with_newline lines);
+  is = refl;
+  first_is = cc;
+  equal = equals other.file.0 (other.line + 1) text.file.0 (text.line + 1 + 1) olds lines turn (cc) plain turns;
+}
 
-  settled : IsSettled run.stage
-  settled seeking = cc
+-- A change whose old side equals the web's next lines.
+module _ (world : World) (entry : WaitingEntry) (depth : ℕ) (w : SourceLine) (side rs rest : List SourceLine)
+    (things : List Thing) (files : ℕ) (equal : Equals side rs) (begins : w.line.bytes ≡ entry.first) where
+  abbrev old : OldSide
+  old = old_lines (side ++ rest) (raws depth true rs ++ things)
+
+  taken : TakesSide side rs rest things old
+  taken = takes_side depth true side rs rest things equal
+
+  no_fault : change_events entry.begin old ≡ old.events
+  no_fault =
+      (λ i. old.events ++ map fault (closing_faults entry.begin (taken.ended i) (taken.ran_out i) (taken.unequal i)))
+      ∙ append-nil old.events
+
+  changes : merge world (state (raws depth true (w ∷ rs) ++ things) (Some entry) (side ++ rest) files)
+      ≡ took w ∷ old.events ++ merge world (state ((new_lines depth entry.begin rest).things ++ seek ∷ things) None
+      (new_lines depth entry.begin rest).rest files)
+  changes = begin_step world entry w w.line.bytes
+      (record { place = w.line.place; depth = depth; may_match = true }) refl (equal_bytes w.line.bytes entry.first begins)
+      (raws depth true rs ++ things) (side ++ rest) files
+      ∙ (λ i. took w ∷ no_fault i ++ merge world (after_old (taken.ended i) files depth entry.begin old))
+      ∙ (λ i. took w ∷ old.events ++ merge world (state
+      ((new_lines depth entry.begin (taken.rest_is i)).things ++ seek ∷ taken.things_are i) None
+      (new_lines depth entry.begin (taken.rest_is i)).rest files))
+
+  all_taken : Takes (w ∷ rs) side (took w ∷ old.events)
+  all_taken = record {
+    emitted = taken.takes.emitted;
+    reported = taken.takes.reported;
+    opened = taken.takes.opened;
+    count = omega (arith, taken.takes.count);
+    size = omega (arith, taken.takes.size);
+    short = λ a b. (a.0, taken.takes.short b a.1);
+  }
+
+-- The merger after it took an old side.
+module _ {R : Type 0} (run new : MergeState R) (mid : TakenCounters) (s u : Stretch) (lines olds : List (List ℕ))
+    (turn : List ℕ) (begin : Place) (depth : ℕ) (some : 0 < run.stack.depth)
+    (top : PassesTop run.stack new.stack run.limits mid lines)
+    (slot : PassesSlot run.change new.change mid new.limits (olds ++ turn ∷ []))
+    (web_is : IsStretchAt None (top_of run.stack) s lines) (side_is : IsStretchAt None run.change u (olds ++ turn ∷ []))
+    (same : map trimmed lines ≡ run.first.items ∷ map trimmed olds)
+    (plain : AllByRecursion (λ line. change_code (trimmed line) ≡ None) olds)
+    (turns : change_code (trimmed turn) ≡ Some new_side) (matches : matches_at (top_of run.stack) ≡ true)
+    (deep : depth ≡ number_or_zero source_depth (top_of run.stack)) (waiting : run.stage ≡ Waiting begin)
+    (stage : new.stage ≡ Changing (record { begin = begin; below = new.stack.depth; depth = depth }))
+    (inputs : new.inputs ≡ run.inputs) (names : new.names ≡ run.names) (faults : new.faults ≡ run.faults) where
+  sides : Sides (top_of run.stack) run.change lines (olds ++ turn ∷ []) run.first.items
+  sides = sides_of (top_of run.stack) run.change s u lines olds turn run.first.items web_is side_is same plain turns
+
+  abbrev side : List SourceLine
+  side = sources_next run.change (olds ++ turn ∷ [])
+
+  abbrev entry : WaitingEntry
+  entry = record { begin = begin; first = run.first.items }
+
+  abbrev files : ℕ
+  files = length (opened_file_names run.names)
 
   module _ (t : List ℕ → Option (List ℕ)) (l : R → List ℕ) where
+    abbrev world : World
+    world = world_in t run.inputs
+
+    abbrev rest : List SourceLine
+    rest = change_lines l new
+
     abbrev things : List Thing
-    things = things_above l 0 mid.stack []
+    things = things_above l 0 new.stack []
 
-    taken_first : (taken : CountsLine first_bytes at.place (counters_of run.limits) (counters_of mid.limits))
-        × (events_to_come t l run ≡ events_after_line t l mid at taken.line)
-    taken_first = raw_taken t l run mid at first_bytes settled
-        (subst (λ n. TakesAbove l n run.stack mid.stack (Some at) first_bytes (counters_of run.limits)
-        (counters_of mid.limits)) (sym (ap floor_of waiting)) (top.takes l))
-        (subst (λ n. StaysBelow n run.stack.texts mid.stack.texts) (sym (ap floor_of waiting)) top.below)
-        top.only top.change
+    first : events_to_come t l run
+        ≡ merge world (state (raws depth true (sides.w ∷ sides.rs) ++ things) (Some entry) (side ++ rest) files)
+    first = (λ i. coming_of t (optional_string_bytes run.inputs) l (waiting i) run.change run.first.items files
+        (things_in l (waiting i) (change_lines l run) run.stack))
+        ∙ (λ i. merge world (state (top.takes l 0 some [] i) (Some entry) (slot.takes l i) files))
+        ∙ (λ i. merge world (state (raws (sym deep i) (matches i) (sides.is i) ++ things) (Some entry) (side ++ rest)
+        files))
 
-    abbrev all : OldSide
-    all = old_lines (change_lines l mid) things
+    abbrev change : Change
+    change = record { begin = begin; below = new.stack.depth; depth = depth }
 
-    abbrev none : Replaced
-    none = record { unequal = 0; ran_out = false; ended = false }
-
-    untaken : Replaces all all none (so_far_of mid) (so_far_of mid)
-    untaken = record {
-      yields = record {
-        events = [];
-        whole = refl;
-        emitted = refl;
-        faults = sym (append-nil _);
-        names = sym (append-nil _);
-        lines_are = omega arith;
-        bytes_are = omega arith;
-        short = tt;
-      };
-      unequal = omega arith;
-      ran_out = refl;
-      ended = refl;
-      rest = refl;
-      things = refl;
-    }
-
-    replaced : IsReplaced all none (change_lines l last) things (so_far_of mid) (so_far_of last)
-    replaced =
-        let taken = side.takes l in
-        replaces_new all none (change_lines l mid) things (so_far_of mid) (so_far_of mid) untaken (so_far_of last)
-        (stretch_bytes mid.change turn) (place_next mid.change) taken.0 (change_lines l last) taken.1
-        (took_faults side.only) (took_names side.only) turns
-
-    no_fault : all.events ≡ change_events begin all
-    no_fault = sym (ap (λ (es : List Event). all.events ++ es)
-        (λ i. map fault (closing_faults begin (replaced.ended i) (replaced.ran_out i) (replaced.unequal i)))
-        ∙ append-nil all.events)
-
-    lasts : so_far_of last ≡ so_far_of new
-    lasts = (λ i. record {
-      faults = (sym faults i).items;
-      names = opened_file_names (sym names i);
-      count = counters_of (sym limits i);
-    })
-
-    abbrev lines : List SourceLine
-    lines = change_lines l last
-
-    abbrev entry : Change
-    entry = record { begin = begin; below = mid.stack.depth; depth = at.depth }
-
-    in_stage : new.stage ≡ Changing entry
-    in_stage = stage
-        ∙ ap (λ (k : Stack R). Changing (record { begin = begin; below = k.depth; depth = at.depth })) side.stack
-
-    below_it : things_in l (Changing entry) lines mid.stack
-        ≡ (new_lines at.depth begin lines).things ++ seek ∷ things
+    below_it : things_in l (Changing change) rest new.stack
+        ≡ (new_lines depth begin rest).things ++ seek ∷ things
     below_it =
-        let nothing_above : mid.stack.depth - mid.stack.depth ≡ 0 = omega arith in
-        let all_below : mid.stack.depth ≡ mid.stack.depth - 0 = omega arith in
-        over-none l mid.stack.depth (mid.stack.depth - mid.stack.depth) mid.stack.texts
-        (things_below l entry lines mid.stack) nothing_above
-        ∙ ap (λ n. (new_lines at.depth begin lines).things ++ seek ∷ things_over l 0 n mid.stack.texts []) all_below
+        let nothing_above : new.stack.depth - new.stack.depth ≡ 0 = omega arith in
+        let all_below : new.stack.depth ≡ new.stack.depth - 0 = omega arith in
+        over-none l new.stack.depth (new.stack.depth - new.stack.depth) new.stack.texts
+        (things_below l change rest new.stack) nothing_above
+        ∙ ap (λ n. (new_lines depth begin rest).things ++ seek ∷ things_over l 0 n new.stack.texts []) all_below
 
-    changed : IsChanged begin at.depth all new.stage (change_lines l new) (things_of l new) (so_far_of mid)
-        (so_far_of new)
-    changed = record {
-      yields = subst (λ (so : SoFar). EmitsLines [] (so_far_of mid) so (change_events begin all) []) lasts
-          (subst (λ (es : List Event). EmitsLines [] (so_far_of mid) (so_far_of last) es []) no_fault replaced.yields);
-      settled = λ seeking. cc;
-      after = λ files first_old.
-          (λ i. record {
-            things = things_in l (in_stage i) (lines_at l (change i)) ((stack ∙ side.stack) i);
-            pending = pending_in (in_stage i) first_old;
-            change = change_in (in_stage i) (lines_at l (change i));
-            files = files;
-          })
-          ∙ (λ i. record {
-            things = below_it i;
-            pending = None;
-            change = (new_lines at.depth begin lines).rest;
-            files = files;
-          })
-          ∙ sym (ap (λ ended. after_old ended files at.depth begin all) replaced.ended ∙ (λ i. record {
-            things = (new_lines at.depth begin (replaced.rest i)).things ++ seek ∷ replaced.things_are i;
-            pending = None;
-            change = (new_lines at.depth begin (replaced.rest i)).rest;
-            files = files;
-          }));
+    later : events_to_come t l new ≡ merge world (state ((new_lines depth begin rest).things ++ seek ∷ things) None
+        (new_lines depth begin rest).rest files)
+    later = (λ i. coming_of t (optional_string_bytes (inputs i)) l (stage i) new.change new.first.items
+        (length (opened_file_names (names i))) (things_in l (stage i) rest new.stack))
+        ∙ ap (λ (ts : List Thing). merge world (state ts None (new_lines depth begin rest).rest files)) below_it
+
+    abbrev events : List Event
+    events = took sides.w
+        ∷ (old world entry depth sides.w side sides.rs rest things files sides.equal sides.first_is).events
+
+    taken_all : Takes (sides.w ∷ sides.rs) side events
+    taken_all = all_taken world entry depth sides.w side sides.rs rest things files sides.equal sides.first_is
+
+    old_side_yields : EmitsLines [] (so_far_of run) (so_far_of new) (events_to_come t l run) (events_to_come t l new)
+    old_side_yields = record {
+      events = events;
+      whole = first ∙ changes world entry depth sides.w side sides.rs rest things files sides.equal sides.first_is
+          ∙ ap (λ (es : List Event). events ++ es) (sym later);
+      emitted = taken_all.emitted;
+      faults = ap (λ v. v.items) faults ∙ sym (append-nil _)
+          ∙ ap (λ fs. run.faults.items ++ fs) (sym taken_all.reported);
+      names = ap opened_file_names names ∙ sym (append-nil _)
+          ∙ ap (λ (ns : List (List ℕ)). opened_file_names run.names ++ ns) (sym taken_all.opened);
+      lines_are = omega (
+        arith,
+        taken_all.count,
+        top.few,
+        slot.few,
+        ap (λ (ls : List SourceLine). length ls) sides.is,
+        next-length None (top_of run.stack) s lines web_is,
+        next-length None run.change u (olds ++ turn ∷ []) side_is,
+      );
+      bytes_are = omega (
+        arith,
+        taken_all.size,
+        top.bytes,
+        slot.bytes,
+        ap size_of_lines sides.is,
+        next-size None (top_of run.stack) s lines web_is,
+        next-size None run.change u (olds ++ turn ∷ []) side_is,
+      );
+      short = taken_all.short (subst AreShort sides.is (next-short None (top_of run.stack) s lines web_is))
+          (next-short None run.change u (olds ++ turn ∷ []) side_is);
     }
 
-    pub old_yields : EmitsLines [] (so_far_of run) (so_far_of new) (events_to_come t l run) (events_to_come t l new)
-    old_yields = began_yields t l mid run at first_bytes begin _ top.only taken_first.0 taken_first.1 begun new
-        (inputs ∙ side.only.inputs) (names ∙ side.only.names) changed
-
-  pub old_passes : {E : Type 0} (result : Result Bool E) → new.stopped ≡ last.stopped → PassesSilently run new result
-  old_passes result stopped = silent run new result old_yields
-      (stopped ∙ side.only.stopped ∙ top.only.stopped) (names ∙ side.only.names ∙ top.only.names)
-      (omega (arith, top.counted, side.counted, ap (λ (c : TakenCounters). c.lines) limits)) (λ opened_as known.
-      knows_same opened_as last new (ap (λ (k : Stack R). k.texts) stack) change (ap opened_file_names names)
-      (side.readers opened_as (top.readers opened_as known)))
+  pub old_side_passes : {E : Type 0} (result : Result Bool E) → new.stopped ≡ run.stopped
+      → ((opened_as : R → List ℕ) → AreReadersKnown opened_as run → AreReadersKnown opened_as new)
+      → PassesSilently run new result
+  old_side_passes result stopped readers = silent run new result old_side_yields stopped names
+      (omega (arith, top.few, slot.few, length-append olds (turn ∷ []))) readers

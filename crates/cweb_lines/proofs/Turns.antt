@@ -71,7 +71,7 @@ begun_entry : (p : Option WaitingEntry) (may_match : Bool) (bytes : List ℕ) (p
 begun_entry None may_match bytes place is = absurd (cc)
 begun_entry (Some entry) may_match bytes place is = grind arith
 
-begin_step : (world : World) (entry : WaitingEntry) (source : SourceLine) (bytes : List ℕ) (at : LineAt)
+pub begin_step : (world : World) (entry : WaitingEntry) (source : SourceLine) (bytes : List ℕ) (at : LineAt)
     → source.line ≡ record { bytes = bytes; place = at.place }
     → (at.may_match && bytes_eq bytes entry.first) ≡ true → (things : List Thing) (lines : List SourceLine) (files : ℕ)
     → merge world (state (raw_thing at source ∷ things) (Some entry) lines files)

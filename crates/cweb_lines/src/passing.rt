@@ -4,4 +4,5 @@ pub mod advance;
 pub mod change;
 pub mod line_span;
 pub mod next;
+pub mod old_side;
 pub mod stretch;

@@ -4,6 +4,7 @@ mod changed_files;
 mod changed_lines;
 mod changes;
 mod chunk_edges;
+mod chunked_changes;
 mod chunks;
 mod devices;
 mod failing;

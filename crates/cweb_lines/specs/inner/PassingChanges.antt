@@ -1,39 +1,62 @@
 -- Changes whose lines are in the buffers.
-use Rattle.std.specs.Prelude.{◌≡◌, ◌≤◌, ◌<◌, ◌+◌, ℕ, List, [], ◌∷◌, Option, None, Some, Result, Ok, Bool, true}
-use Rattle.std.specs.Str.{bytes_eq}
+use Rattle.std.specs.Prelude.{◌≡◌, ◌≤◌, ◌<◌, ◌+◌, ◌++◌, ℕ, List, [], ◌∷◌, length, map, slice_range, Option, None, Some}
+use Rattle.std.specs.Prelude.{Result, Ok, Bool, true}
+use Rattle.std.specs.List.{AllByRecursion}
 use Rattle.cweb_lines.specs.Change.{change_code}
-use Rattle.cweb_lines.specs.Lines.{Place}
+use Rattle.cweb_lines.specs.Lines.{Place, trimmed}
 use Rattle.cweb_lines.specs.declared.change.code.Code.TheVariants.{NewSide as new_side}
 use Rattle.cweb_lines.specs.surface.MergeProgress.{MergeState, change_lines}
 use Rattle.cweb_lines.specs.surface.MergerCalls.{AreReadersKnown}
 use Rattle.cweb_lines.specs.surface.OpenSources.{OpenSource, counters_of, matches_at}
-use Rattle.cweb_lines.specs.inner.OpenSources.{CountsLine, StaysBelow, TakesAbove}
-use Rattle.cweb_lines.specs.inner.Passing.{AppendsPassedLines, IsStretchAt, stretch_bytes, top_of}
+use Rattle.cweb_lines.specs.inner.OpenSources.{CountsLine}
+use Rattle.cweb_lines.specs.inner.Passing.{AppendsPassedLines, IsStretchAt, buffer_of, stretch_bytes, with_newlines}
 use Rattle.cweb_lines.specs.inner.StepCalls.{OnlyTakes}
 use Rattle.cweb_lines.specs.declared.counters.TakenCounters.{TakenCounters}
 use Rattle.cweb_lines.specs.declared.limits.TheConstants.{BYTES, LINES}
+use Rattle.cweb_lines.specs.declared.passing.next.LinesAhead.{LinesAhead}
+use Rattle.cweb_lines.specs.declared.passing.old_side.OldSideAhead.{OldSideAhead}
 use Rattle.cweb_lines.specs.declared.passing.stretch.Stretch.{Stretch}
-use Rattle.cweb_lines.specs.declared.open_source.LineAt.{LineAt}
 
 -- One line comes next in the buffer of a slot's source. It is no include line.
 abbrev pub IsNextLine : {R : Type 0} → Option (OpenSource R) → Stretch → Type 0
 IsNextLine slot s = (raw : List ℕ) × IsStretchAt None slot s (raw ∷ [])
 
--- The next line of the deepest source begins the entry that waits.
-pub record IsFirstOld {R : Type 0} (run : MergeState R) (s : Stretch) : Type 0 where
-  pub some : 0 < run.stack.depth
-  pub next : IsNextLine (top_of run.stack) s
-  pub matches : matches_at (top_of run.stack) ≡ true
-  pub equal : bytes_eq (stretch_bytes (top_of run.stack) s) run.first.items ≡ true
+-- The last of some lines in the buffer of a slot's source, trimmed.
+abbrev pub last_bytes : {R : Type 0} → Option (OpenSource R) → LinesAhead → List ℕ
+last_bytes slot lines = slice_range (buffer_of slot) lines.last lines.all.text
 
--- The next line of a change file is @y.
-pub record IsTurn {R : Type 0} (slot : Option (OpenSource R)) (s : Stretch) : Type 0 where
-  pub next : IsNextLine slot s
-  pub turns : change_code (stretch_bytes slot s) ≡ Some new_side
+-- These lines and one more come next in the buffer of a slot's source. None is an include line.
+pub record AreAhead {R : Type 0} (slot : Option (OpenSource R)) (lines : LinesAhead) (before : List (List ℕ))
+    (raw : List ℕ) : Type 0 where
+  pub in_place : IsStretchAt None slot lines.all (before ++ raw ∷ [])
+  pub bytes : last_bytes slot lines ≡ trimmed raw
+  pub order : lines.last ≤ lines.all.text
+  pub within : lines.all.end ≤ length (buffer_of slot)
+  pub small : length (with_newlines (before ++ raw ∷ [])) ≤ 1048576
 
--- Two lines of the maximum length are within the limits.
+-- The web's next lines equal the first old line of an entry and these further ones. One more line of the change file
+-- comes next.
+pub record IsPartOfOldSide {R : Type 0} (web change : Option (OpenSource R)) (first : List ℕ)
+    (ahead : OldSideAhead) : Type 0 where
+  pub before : List (List ℕ)
+  pub raw : List ℕ
+  pub olds : List (List ℕ)
+  pub last : List ℕ
+  pub web_is : AreAhead web ahead.web before raw
+  pub side_is : AreAhead change ahead.side olds last
+  pub equal : map trimmed (before ++ raw ∷ []) ≡ first ∷ map trimmed olds
+  pub plain : AllByRecursion (λ line. change_code (trimmed line) ≡ None) olds
+  pub matches : matches_at web ≡ true
+
+-- The web's next lines equal the old lines of an entry, and @y follows these in the change file.
+pub record IsOldSide {R : Type 0} (web change : Option (OpenSource R)) (first : List ℕ)
+    (ahead : OldSideAhead) : Type 0 where
+  pub part : IsPartOfOldSide web change first ahead
+  pub turns : change_code (last_bytes change ahead.side) ≡ Some new_side
+
+-- Lines with the bytes of two lines of the maximum length are within the limits, however many they are.
 pub record HasRoomForTwo (limits : TakenCounters) : Type 0 where
-  pub few : limits.lines + 2 ≤ LINES
+  pub few : limits.lines + 2097152 ≤ LINES
   pub small : limits.bytes + 2097152 ≤ BYTES
 
 -- The place of a source's next line.
@@ -49,20 +72,6 @@ pub record TakesChangeLine {R : Type 0} (old new : MergeState R) (s : Stretch) :
   pub only : OnlyTakes old new
   pub stack : new.stack ≡ old.stack
   pub counted : new.limits.lines ≡ old.limits.lines + 1
-  pub readers : (opened_as : R → List ℕ) → AreReadersKnown opened_as old → AreReadersKnown opened_as new
-
--- The next line of the deepest source is taken and counted.
-pub record TakesTopLine {R : Type 0} (old new : MergeState R) (s : Stretch) (at : LineAt) : Type 0 where
-  pub takes : (left : R → List ℕ) → TakesAbove left 0 old.stack new.stack (Some at)
-      (stretch_bytes (top_of old.stack) s) (counters_of old.limits) (counters_of new.limits)
-  pub below : StaysBelow 0 old.stack.texts new.stack.texts
-  pub only : OnlyTakes old new
-  pub change : new.change ≡ old.change
-  pub depth : new.stack.depth ≡ old.stack.depth
-  pub deep : old.stack.depth ≤ at.depth
-  pub matches : at.may_match ≡ matches_at (top_of old.stack)
-  pub counted : new.limits.lines ≡ old.limits.lines + 1
-  pub bytes : new.limits.bytes ≤ old.limits.bytes + 1048576
   pub readers : (opened_as : R → List ℕ) → AreReadersKnown opened_as old → AreReadersKnown opened_as new
 
 -- Lines of a change are taken, and none is emitted. Otherwise nothing changes.

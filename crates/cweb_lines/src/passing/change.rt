@@ -1,16 +1,17 @@
 // Changes whose lines are in the buffers. They are applied without a read.
 ghost use Rattle.std.specs.Prelude.{◌≡◌, ◌<◌, IfSome, Some, length};
 ghost use Rattle.cweb_lines.specs.Change as spec;
-ghost use Rattle.cweb_lines.specs.inner.Passing.{stretch_bytes};
-ghost use Rattle.cweb_lines.specs.inner.PassingChanges.{HasRoomForTwo, IsFirstOld, IsNextLine, IsTurn, PassesChange};
+ghost use Rattle.cweb_lines.specs.inner.Passing.{stretch_bytes, top_of};
+ghost use Rattle.cweb_lines.specs.inner.PassingChanges.{HasRoomForTwo, IsNextLine, IsOldSide, PassesChange};
 ghost use Rattle.cweb_lines.specs.inner.PassingChanges.{PassesSilently};
 
 use crate::change::code::{Code, change_code};
 use crate::change::{Change, Stage};
 use crate::limits::LINE_LENGTH;
 use crate::merge_state::MergeState;
-use crate::passing::advance::advance_slot;
-use crate::passing::next::{matches_in, next_in, text_in};
+use crate::passing::advance::{advance_slot, advance_top};
+use crate::passing::next::{depth_in, next_in, text_in};
+use crate::passing::old_side::{OldSideAhead, old_side_ahead};
 use crate::passing::stretch::{Stretch, line_from};
 use crate::writing::pass::append_line;
 use cweb_files::Place;
@@ -103,50 +104,35 @@ impl<R: Drop> MergeState<R> {
         Ok(true)
     }
 
-    // The next line of the web, if it begins the entry that waits and is in the buffer.
-    fn old_line_ahead(&self) -> Option<Stretch>
-        ensures { IfSome result (λ s. IsFirstOld self.now s) }
+    // The old side of the entry that waits, if the next lines of the web equal it.
+    fn old_side(&self) -> Option<OldSideAhead>
+        ensures some { IfSome result (λ ahead. 0 < self.now.stack.depth) }
+        ensures is { IfSome result (λ ahead.
+            IsOldSide (top_of self.now.stack) self.now.change self.now.first.items ahead) }
     {
         if self.stack.depth == 0 {
             return None;
         }
-        let slot = &self.stack.texts[self.stack.depth - 1];
-        let first = next_in(slot)?;
-        if !matches_in(slot) || text_in(slot, first) != self.first.as_slice() {
-            return None;
-        }
-        Some(first)
+        let top = &self.stack.texts[self.stack.depth - 1];
+        old_side_ahead(top, &self.change, &self.first)
     }
 
-    // The next line of the change file, if it is `@y` and in the buffer.
-    fn turn_ahead(&self) -> Option<Stretch>
-        ensures { IfSome result (λ s. IsTurn self.now.change s) }
-    {
-        let turn = next_in(&self.change)?;
-        match change_code(text_in(&self.change, turn)) {
-            Some(Code::NewSide) => Some(turn),
-            _ => None,
-        }
-    }
-
-    // Takes the first old line of the entry that waits, if `@y` follows it.
+    // Takes the old side of the entry that waits, or nothing: no stage is for the middle of an old side.
     fn pass_old(&mut self, begin: Place) -> Result<bool, AllocError>
         requires waiting { self.old.stage ≡ Stage.Waiting begin }
         requires two { HasRoomForTwo self.old.limits }
         ensures { PassesSilently self.old self.new result }
     {
-        let Some(first) = self.old_line_ahead() else {
+        let Some(ahead) = self.old_side() else {
             return Ok(false);
         };
-        let Some(turn) = self.turn_ahead() else {
-            return Ok(false);
-        };
-        let at = self.take_top_ahead(first);
-        self.take_change_ahead(turn);
+        let depth = depth_in(&self.stack.texts[self.stack.depth - 1]);
+        advance_top(&mut self.stack, &mut self.limits, ahead.web.all);
+        advance_slot(&mut self.change, &mut self.limits, ahead.side.all);
         self.stage = Stage::Changing(Change {
             begin,
             below: self.stack.depth,
-            depth: at.depth,
+            depth,
         });
         Ok(true)
     }

@@ -1,18 +1,19 @@
 // The output doesn't depend on the size of chunks, reads and writes.
 use super::*;
+use chunked_changes::SEVERAL;
 use failing::CHANGED;
 use std::process::Abort;
 use trial::TrialShelf;
 
 // Chunks of `room` bytes, and writes of at most `most` bytes.
 #[derive(Clone, Copy)]
-struct Buffering<'a> {
-    room: usize,
-    most: usize,
-    text: &'a [u8],
+pub struct Buffering<'a> {
+    pub room: usize,
+    pub most: usize,
+    pub text: &'a [u8],
     // the number of writes
-    writes: Option<u64>,
-    case: usize,
+    pub writes: Option<u64>,
+    pub case: usize,
 }
 
 impl<S: Shelf> Case<S, Fail> for Buffering<'_> {
@@ -74,63 +75,6 @@ fn chunks(rt: HostRuntime) -> Result<(), Fail> {
         compare_chunks(&rt, *room, *most, *writes)?;
     }
     Ok(())
-}
-
-// The changes of a web whose lines are read in pieces of 64 KB: each read costs at most one write.
-#[derive(Clone, Copy)]
-struct FewWrites<'a> {
-    text: &'a [u8],
-    writes: u64,
-}
-
-impl<S: Shelf> Case<S, Fail> for FewWrites<'_> {
-    fn ask<A: Abort>(
-        &mut self,
-        rt: &A,
-        merger: &mut Merger<S>,
-        shelf: &mut S,
-        filled: &mut Filled,
-    ) -> Result<(), Fail> {
-        let sink = &mut filled.sink;
-        holds(rt, shelf.failures() == 0);
-        write_buffered(rt, merger, shelf, sink, 65536)?;
-        same_bytes(rt, &sink.bytes, self.text);
-        holds(rt, sink.writes <= self.writes);
-        Ok(())
-    }
-}
-
-// A text 10,000 times.
-fn repeated(alloc: Global, unit: &[u8]) -> Result<Vec<u8>, AllocError> {
-    let mut text = Vec::new(alloc);
-    for _ in 0..10_000 {
-        text.extend_from_slice(unit)?;
-    }
-    Ok(text)
-}
-
-// Changes with this text in the change file. Nine reads, and two full chunks.
-fn writes_of_changes(
-    rt: &(impl AllocGlobal + Abort),
-    entry: &[u8],
-    changed: &[u8],
-) -> Result<(), Fail> {
-    let web = repeated(rt.alloc(), b"old\nkept\n")?;
-    let change = repeated(rt.alloc(), entry)?;
-    let text = repeated(rt.alloc(), changed)?;
-    let files = [("a.w", web.as_slice()), ("c.ch", change.as_slice())];
-    let mut case = FewWrites {
-        text: &text,
-        writes: 14,
-    };
-    merge_files(rt, &files, &CHANGED_WEB, &mut case)
-}
-
-// Changes of one line are applied without a write of their own. Comments and blanks in the change file may be there.
-#[test]
-fn writes_of_many_changes(rt: HostRuntime) -> Result<(), Fail> {
-    writes_of_changes(&rt, b"@x\nold\n@y\nnew\n@z\n", b"new\nkept\n")?;
-    writes_of_changes(&rt, b"@x\nold\n@y\n@z why\n\n", b"kept\n")
 }
 
 const READS: &[(&str, &[u8])] = &[
@@ -229,6 +173,7 @@ fn lines_buffered_before_a_read_that_fails(rt: HostRuntime) -> Result<(), Fail> 
         for fails_at in 1..19 {
             buffers_as_much(&rt, CHANGED, fails_at, &mut written)?;
             buffers_as_much(&rt, PLAIN, fails_at, &mut written)?;
+            buffers_as_much(&rt, SEVERAL, fails_at, &mut written)?;
         }
     }
     Ok(())
