@@ -82,6 +82,7 @@ pub use Rattle.cweb_lines.specs.inner.MergeProgress.{FailsAmong}
 pub use Rattle.cweb_lines.specs.inner.OpenSources.{CountsLine, files_up_to, raw_thing, TopStops, FirstStops, StaysBelow}
 pub use Rattle.cweb_lines.specs.inner.OpenSources.{OpensSource, StopsAbove, TakesAbove, TakesFirst, Counted, AreDeep}
 pub use Rattle.cweb_lines.specs.inner.OpenSources.{line_number, TakesNextLine, stop_for, maximum_of}
+pub use Rattle.cweb_lines.specs.inner.Passing.{IsRun, IsRunAt, IsRunOf}
 pub use Rattle.cweb_lines.specs.inner.Passing.{ComesNext, EmitsBufferedLines, HasRoomFor, IsStretch, Reaches}
 pub use Rattle.cweb_lines.specs.inner.Passing.{IsStretchAt, IsStretchOf, line_with_newline, lines_next, top_of}
 pub use Rattle.cweb_lines.specs.inner.Passing.{AppendsPassedLines, trimmed_with_newlines, sources_next}

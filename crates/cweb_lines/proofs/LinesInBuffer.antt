@@ -1,5 +1,5 @@
 -- Adjacent lines in the buffer, and the lines of the source that they are.
-use Rattle.cweb_lines.proofs.Common.{◌≡◌, ◌≤◌, ◌<◌, ◌+◌, ◌-◌, ℕ, Bool, List, [], ◌∷◌, ◌++◌, length, map, take, drop, Option, Some, None, refl, sym, ◌∙◌, ap, arith, take-add, take-append-add, append-nil, append_assoc, append_cancel_right, drop-drop, length-append, length-map, length-take, map-append, take-take, take_all, slice_range, IfSome, WaitingEntry, SplitsAt, CutLine, numbered_lines, cut_lines, trimmed, AllByRecursion, PassesThrough, HasRoomFor, IsStretch, OnlyLastExceeds, Reaches, IsStretchOf, line_with_newline, trimmed_with_newlines, sources_next, with_newlines, all_but_last, buffered, lines_at, TakenCounters, LINES, BYTES, Stretch, OpenSource}
+use Rattle.cweb_lines.proofs.Common.{◌≡◌, ◌≤◌, ◌<◌, ◌+◌, ◌-◌, ℕ, Bool, List, [], ◌∷◌, ◌++◌, length, map, take, drop, Option, Some, None, refl, sym, ◌∙◌, ap, arith, take-add, take-append-add, append-nil, append_assoc, append_cancel_right, drop-drop, length-append, length-map, length-take, map-append, take-take, take_all, slice_range, IfSome, WaitingEntry, SplitsAt, CutLine, numbered_lines, cut_lines, trimmed, AllByRecursion, PassesThrough, HasRoomFor, IsRun, IsRunAt, IsRunOf, IsStretch, IsStretchAt, OnlyLastExceeds, Reaches, IsStretchOf, line_with_newline, trimmed_with_newlines, sources_next, with_newlines, all_but_last, buffered, lines_at, TakenCounters, LINES, BYTES, Stretch, OpenSource}
 use Rattle.cweb_lines.proofs.Newlines.{after_newline, text_lines-full}
 
 pub standing-append : (a b : List (List ℕ)) → with_newlines (a ++ b) ≡ with_newlines a ++ with_newlines b
@@ -125,8 +125,57 @@ pub numbered-append : (file number : ℕ) (a b : List CutLine)
 numbered-append file number [] b = grind arith
 numbered-append file number (line ∷ a) b = grind (arith, numbered-append file (number + 1) a b)
 
+-- A stretch as a run.
+pub run_of : (entry : Option WaitingEntry) (may_match : Bool) (buffer : List ℕ) (start : ℕ) (s : Stretch)
+    (lines : List (List ℕ)) → IsStretch entry may_match buffer start s lines
+    → IsRun entry may_match buffer start s lines
+run_of entry may_match buffer start s lines is =
+    record { passing = is.passing; lines = is.lines; in_place = is.in_place; size = is.size }
+
+pub run_at : {R : Type 0} (entry : Option WaitingEntry) (slot : Option (OpenSource R)) (s : Stretch)
+    (lines : List (List ℕ)) → IsStretchAt entry slot s lines → IsRunAt entry slot s lines
+run_at entry None s lines is = absurd is
+run_at entry (Some text) s lines is = record {
+  is = run_of entry text.may_match text.source.buffer.items text.source.start s lines is.is;
+  within = is.within;
+}
+
+-- A stretch has at least one line.
+pub some_lines : {R : Type 0} (entry : Option WaitingEntry) (slot : Option (OpenSource R)) (s : Stretch)
+    (lines : List (List ℕ)) → IsStretchAt entry slot s lines → 0 < length lines
+some_lines entry None s lines is = absurd is
+some_lines entry (Some text) s [] is = absurd (omega (
+  arith,
+  ap (λ (l : List ℕ). length l) is.is.text,
+  length-append (slice_range text.source.buffer.items text.source.start s.text) (10 ∷ []),
+))
+some_lines entry (Some text) s (line ∷ lines) is = omega arith
+
+pub run_joined : (entry : Option WaitingEntry) (may_match : Bool) (buffer : List ℕ) (start : ℕ) (s t u : Stretch)
+    (a b : List (List ℕ)) → IsRun entry may_match buffer start s a → IsRun entry may_match buffer s.end t b
+    → u.end ≡ t.end → u.lines ≡ s.lines + t.lines → IsRun entry may_match buffer start u (a ++ b)
+run_joined entry may_match buffer start s t u a b first then ends lines = record {
+  passing = passing-append entry may_match a b first.passing then.passing;
+  lines = omega (arith, lines, first.lines, then.lines, length-append a b);
+  in_place = simp (
+    ends,
+    slice_split buffer start s.end t.end (omega (arith, first.size)) (omega (arith, then.size)),
+    first.in_place,
+    then.in_place,
+    standing-append,
+  );
+  size = omega (
+    arith,
+    ends,
+    first.size,
+    then.size,
+    ap (λ (l : List ℕ). length l) (standing-append a b),
+    length-append (with_newlines a) (with_newlines b),
+  );
+}
+
 pub takes_lines : {R : Type 0} (entry : Option WaitingEntry) (text : OpenSource R) (s : Stretch) (lines : List (List ℕ))
-    → IsStretchOf entry text s lines → (left : R → List ℕ) → lines_at left (Some text) ≡ sources_next (Some text) lines
+    → IsRunOf entry text s lines → (left : R → List ℕ) → lines_at left (Some text) ≡ sources_next (Some text) lines
     ++ numbered_lines text.file.0 (text.line + s.lines + 1)
     (cut_lines (slice_range text.source.buffer.items s.end text.source.end ++ left text.source.reader.value))
 takes_lines entry text s lines in_place left = simp (

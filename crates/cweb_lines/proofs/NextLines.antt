@@ -1,5 +1,5 @@
 -- Lines that come next in the buffers, and calls that take some of them or none.
-use Rattle.cweb_lines.proofs.Common.{◌≡◌, ◌<◌, ◌≤◌, ◌+◌, ℕ, Bool, true, false, List, [], ◌∷◌, Option, Some, None, Result, Ok, IfSome, refl, sym, ◌∙◌, ap, subst, arith, length, length-append, append-nil, append_cancel_right, trimmed, is_include_line, IsStretchAt, IsStretchOf, Reaches, PassesSlot, stretch_bytes, with_newlines, source_depth, number_or_zero, lines_at, CountsLine, counters_of, TakenCounters, Stretch, OpenSource, AppendsPassedLines, AreReadersKnown, MergeState, EmitsLines, so_far_of, events_to_come, Place}
+use Rattle.cweb_lines.proofs.Common.{BYTES, HasRoomFor, LINES, ◌≡◌, ◌<◌, ◌≤◌, ◌+◌, ℕ, Bool, true, false, List, [], ◌∷◌, Option, Some, None, Result, Ok, IfSome, refl, sym, ◌∙◌, ap, subst, arith, length, length-append, append-nil, append_cancel_right, trimmed, is_include_line, IsRunAt, IsStretchAt, IsStretchOf, Reaches, PassesSlot, stretch_bytes, with_newlines, source_depth, number_or_zero, lines_at, CountsLine, counters_of, TakenCounters, Stretch, OpenSource, AppendsPassedLines, AreReadersKnown, MergeState, EmitsLines, so_far_of, events_to_come, Place}
 use Rattle.cweb_lines.specs.inner.OpenSources.{DeepAt}
 use Rattle.cweb_lines.specs.inner.PassingChanges.{IsNextLine, PassesChange, PassesSilently, place_next}
 use Rattle.cweb_lines.proofs.Passes.{passes_none}
@@ -15,6 +15,14 @@ module _ {R : Type 0} (s : Stretch) (bytes : List ℕ) where
       → is_include_line (stretch_bytes slot s) ≡ false
   plain_text None next = absurd next
   plain_text (Some text) next = ap is_include_line (text_is (Some text) next) ∙ next.is.passing.0.plain
+
+  pub room_for_line : (slot : Option (OpenSource R)) (limits : TakenCounters) → IsStretchAt None slot s (bytes ∷ [])
+      → limits.lines + 1 ≤ LINES → limits.bytes + 1048576 ≤ BYTES → HasRoomFor limits (bytes ∷ [])
+  room_for_line None limits next few small = absurd next
+  room_for_line (Some text) limits next few small = record {
+    few = few;
+    small = omega (arith, small, next.is.passing.0.short, length-append bytes (10 ∷ []));
+  }
 
   abbrev counted : (text : OpenSource R) (before after : TakenCounters) → IsStretchAt None (Some text) s (bytes ∷ [])
       → after.lines ≡ before.lines + length (bytes ∷ []) → after.bytes ≡ before.bytes + length (with_newlines (bytes ∷ []))
@@ -41,7 +49,7 @@ module _ {R : Type 0} (s : Stretch) (bytes : List ℕ) where
       (counted text before after next passes.few passes.bytes (place_next (Some text)) refl, passes.takes left)
 
 pub deep_enough : {R : Type 0} (slot : Option (OpenSource R)) (s : Stretch) (lines : List (List ℕ)) (place : ℕ)
-    → IsStretchAt None slot s lines → DeepAt place slot → place + 1 ≤ number_or_zero source_depth slot
+    → IsRunAt None slot s lines → DeepAt place slot → place + 1 ≤ number_or_zero source_depth slot
 deep_enough None s lines place next deep = absurd next
 deep_enough (Some text) s lines place next deep = omega (arith, deep)
 

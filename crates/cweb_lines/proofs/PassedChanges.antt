@@ -1,10 +1,10 @@
 -- Lines of the change file that are taken from its buffer: of a new side and of a search.
-use Rattle.cweb_lines.proofs.Common.{◌≡◌, ◌≢◌, ◌<◌, ◌+◌, ℕ, Bool, false, List, [], ◌∷◌, ◌++◌, Option, Some, None, Result, refl, sym, ◌∙◌, ap, subst, arith, length, length-append, append-nil, append_assoc, append_cancel_right, slice_range, trimmed, change_code, begun_by, IsStretch, IsStretchAt, IsStretchOf, Reaches, PassesSlot, stretch_bytes, with_newlines, sources_next, lines_at, counters_of, TakenCounters, Stretch, OpenSource, AppendsPassedLines, AreReadersKnown, MergeState, EmitsLines, so_far_of, events_to_come, opened_file_names, things_of, pending_of, pending_in, change_in, IsOutside, change_lines, Line, Place, SourceLine, Thing, World, world_in, WaitingEntry, Sought, sought, sought_after, outside, Event, emitted, took, merge, seek, things_above, Changing, Change, Seeking, Waiting, LineAt, SoFar, Stack, things_in}
+use Rattle.cweb_lines.proofs.Common.{◌≡◌, ◌≢◌, ◌<◌, ◌+◌, ℕ, Bool, false, List, [], ◌∷◌, ◌++◌, Option, Some, None, Result, refl, sym, ◌∙◌, ap, subst, arith, length, length-append, append-nil, append_assoc, append_cancel_right, slice_range, trimmed, change_code, begun_by, IsRunOf, IsStretch, IsStretchAt, IsStretchOf, Reaches, PassesSlot, stretch_bytes, with_newlines, sources_next, lines_at, counters_of, TakenCounters, Stretch, OpenSource, AppendsPassedLines, AreReadersKnown, MergeState, EmitsLines, so_far_of, events_to_come, opened_file_names, things_of, pending_of, pending_in, change_in, IsOutside, change_lines, Line, Place, SourceLine, Thing, World, world_in, WaitingEntry, Sought, sought, sought_after, outside, Event, emitted, took, merge, seek, things_above, Changing, Change, Seeking, Waiting, LineAt, SoFar, Stack, things_in}
 use Rattle.cweb_lines.specs.declared.change.code.Code.TheVariants.{OldSide as old_side, EndSide as end_side}
 use Rattle.cweb_lines.specs.inner.PassingChanges.{PassesSilently, TakesChangeLine, place_next}
 use Rattle.cweb_lines.proofs.AddedEvents.{takes_one}
 use Rattle.cweb_lines.proofs.EmittedLinesAddUp.{yields_took}
-use Rattle.cweb_lines.proofs.LinesInBuffer.{joined}
+use Rattle.cweb_lines.proofs.LinesInBuffer.{run_joined, run_of}
 use Rattle.cweb_lines.proofs.Merges.{merge_emitted, state, yields_line}
 use Rattle.cweb_lines.proofs.NewSideLines.{new_first, new_side_ended}
 use Rattle.cweb_lines.proofs.PlainLines.{first_old}
@@ -131,15 +131,15 @@ comment_yields run mid s takes seeking none t l =
 -- `@x` and the first old line.
 pub record TwoLines {R : Type 0} (text : OpenSource R) (s u : Stretch) (x : List ℕ) (first : List ℕ) : Type 0 where
   pub raw_line : List ℕ
-  pub in_place : IsStretchOf None text u (x ∷ raw_line ∷ [])
+  pub in_place : IsRunOf None text u (x ∷ raw_line ∷ [])
   pub is : first ≡ trimmed raw_line
 
 pub two_lines : {R : Type 0} (text : OpenSource R) (s t u : Stretch) (x : List ℕ)
-    → IsStretchOf None text s (x ∷ []) → s.text + 1 ≡ s.end
+    → IsStretchOf None text s (x ∷ [])
     → Reaches None text.may_match text.source.buffer.items s.end text.source.end t → t.lines ≡ 1
-    → u.text ≡ t.text → u.end ≡ t.end → u.lines ≡ s.lines + t.lines
+    → u.end ≡ t.end → u.lines ≡ s.lines + t.lines
     → TwoLines text s u x (slice_range text.source.buffer.items s.end t.text)
-two_lines text s t u x first whole reaches one text_at end_is lines_are = by reaches.0 reaches.1
+two_lines text s t u x first reaches one end_is lines_are = by reaches.0 reaches.1
   where
     by : (raw_lines : List (List ℕ)) → IsStretch None text.may_match text.source.buffer.items s.end t raw_lines
         → TwoLines text s u x (slice_range text.source.buffer.items s.end t.text)
@@ -148,8 +148,9 @@ two_lines text s t u x first whole reaches one text_at end_is lines_are = by rea
     by (raw_line ∷ []) second = record {
       raw_line = raw_line;
       in_place = record {
-        is = joined None text.may_match text.source.buffer.items text.source.start s t u (x ∷ []) (raw_line ∷ [])
-            first.is whole second text_at end_is lines_are;
+        is = run_joined None text.may_match text.source.buffer.items text.source.start s t u (x ∷ []) (raw_line ∷ [])
+            (run_of None text.may_match text.source.buffer.items text.source.start s (x ∷ []) first.is)
+            (run_of None text.may_match text.source.buffer.items s.end t (raw_line ∷ []) second) end_is lines_are;
         within = omega (arith, end_is, reaches.2);
       };
       is = append_cancel_right _ _ (10 ∷ []) second.text;
@@ -168,7 +169,7 @@ two_sizes x first =
     omega (arith, length-append x (10 ∷ first ++ 10 ∷ []), length-append first (10 ∷ []))
 
 pub entry_yields : {R : Type 0} (run new : MergeState R) (text : OpenSource R) (u : Stretch) (x first : List ℕ)
-    → run.change ≡ Some text → IsStretchOf None text u (x ∷ first ∷ [])
+    → run.change ≡ Some text → IsRunOf None text u (x ∷ first ∷ [])
     → PassesSlot run.change new.change run.limits new.limits (x ∷ first ∷ []) → run.stage ≡ Seeking
     → change_code (trimmed x) ≡ Some old_side → trimmed first ≢ [] → change_code (trimmed first) ≡ None
     → new.stage ≡ Waiting (place_next (Some text)) → new.first.items ≡ trimmed first → new.inputs ≡ run.inputs
@@ -208,7 +209,7 @@ entry_yields {R = R} run new text u x first was in_place passes seeking begins s
     })
 
 pub entry_passes : {R E : Type 0} (run new : MergeState R) (result : Result Bool E) (text : OpenSource R) (u : Stretch)
-    (x first : List ℕ) → run.change ≡ Some text → IsStretchOf None text u (x ∷ first ∷ [])
+    (x first : List ℕ) → run.change ≡ Some text → IsRunOf None text u (x ∷ first ∷ [])
     → PassesSlot run.change new.change run.limits new.limits (x ∷ first ∷ []) → run.stage ≡ Seeking
     → change_code (trimmed x) ≡ Some old_side → trimmed first ≢ [] → change_code (trimmed first) ≡ None
     → new.first.items ≡ trimmed first

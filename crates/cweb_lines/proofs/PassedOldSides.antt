@@ -1,5 +1,5 @@
 -- An old side that is taken from the buffers.
-use Rattle.cweb_lines.proofs.Common.{◌≡◌, ◌<◌, ◌+◌, ◌-◌, ℕ, Bool, true, List, [], ◌∷◌, ◌++◌, Option, Some, None, Result, refl, sym, ◌∙◌, ap, subst, arith, length, append-nil, map, change_code, top_of, TakenCounters, Stretch, MergeState, EmitsLines, so_far_of, events_to_come, opened_file_names, optional_string_bytes, world_in, World, WaitingEntry, change_lines, Place, SourceLine, Thing, raws, OldSide, old_lines, Event, took, size_of_lines, AreShort, seek, things_above, Changing, Change, Waiting, OpenSource, after_old, change_events, closing_faults, fault, merge, new_lines, things_below, things_in, things_over, line_with_newline, numbered_lines, trimmed, sources_next, source_depth, matches_at, number_or_zero, IsStretchAt, PassesSlot, PassesTop, AllByRecursion, AreReadersKnown, length-append}
+use Rattle.cweb_lines.proofs.Common.{◌≡◌, ◌<◌, ◌+◌, ◌-◌, ℕ, Bool, true, List, [], ◌∷◌, ◌++◌, Option, Some, None, Result, refl, sym, ◌∙◌, ap, subst, arith, length, append-nil, map, change_code, top_of, TakenCounters, Stretch, MergeState, EmitsLines, so_far_of, events_to_come, opened_file_names, optional_string_bytes, world_in, World, WaitingEntry, change_lines, Place, SourceLine, Thing, raws, OldSide, old_lines, Event, took, size_of_lines, AreShort, seek, things_above, Changing, Change, Waiting, OpenSource, after_old, change_events, closing_faults, fault, merge, new_lines, things_below, things_in, things_over, line_with_newline, numbered_lines, trimmed, sources_next, source_depth, matches_at, number_or_zero, IsRunAt, PassesSlot, PassesTop, AllByRecursion, AreReadersKnown, length-append}
 use Rattle.cweb_lines.specs.declared.change.code.Code.TheVariants.{NewSide as new_side}
 use Rattle.cweb_lines.specs.inner.PassingChanges.{PassesSilently}
 use Rattle.cweb_lines.proofs.EqualOldSides.{Equals, Takes, TakesSide, equal_bytes, equals, takes_side}
@@ -20,7 +20,7 @@ record Sides {R : Type 0} (web change : Option (OpenSource R)) (lines side : Lis
   equal : Equals (sources_next change side) rs
 
 sides_of : {R : Type 0} (web change : Option (OpenSource R)) (s u : Stretch) (lines olds : List (List ℕ))
-    (turn first : List ℕ) → IsStretchAt None web s lines → IsStretchAt None change u (olds ++ turn ∷ [])
+    (turn first : List ℕ) → IsRunAt None web s lines → IsRunAt None change u (olds ++ turn ∷ [])
     → map trimmed lines ≡ first ∷ map trimmed olds
     → AllByRecursion (λ line. change_code (trimmed line) ≡ None) olds → change_code (trimmed turn) ≡ Some new_side
     → Sides web change lines (olds ++ turn ∷ []) first
@@ -79,7 +79,7 @@ module _ {R : Type 0} (run new : MergeState R) (mid : TakenCounters) (s u : Stre
     (turn : List ℕ) (begin : Place) (depth : ℕ) (some : 0 < run.stack.depth)
     (top : PassesTop run.stack new.stack run.limits mid lines)
     (slot : PassesSlot run.change new.change mid new.limits (olds ++ turn ∷ []))
-    (web_is : IsStretchAt None (top_of run.stack) s lines) (side_is : IsStretchAt None run.change u (olds ++ turn ∷ []))
+    (web_is : IsRunAt None (top_of run.stack) s lines) (side_is : IsRunAt None run.change u (olds ++ turn ∷ []))
     (same : map trimmed lines ≡ run.first.items ∷ map trimmed olds)
     (plain : AllByRecursion (λ line. change_code (trimmed line) ≡ None) olds)
     (turns : change_code (trimmed turn) ≡ Some new_side) (matches : matches_at (top_of run.stack) ≡ true)

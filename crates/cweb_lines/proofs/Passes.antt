@@ -1,5 +1,6 @@
 -- Lines that pass through: they are taken from the stack of a merger and emitted one by one.
-use Rattle.cweb_lines.proofs.Common.{rules, ◌≡◌, ◌≤◌, ◌<◌, ◌+◌, ◌-◌, ℕ, zero, suc, Bool, List, [], ◌∷◌, ◌++◌, length, map, take, Option, Some, None, refl, sym, ◌∙◌, ap, arith, length-append, length-map, Place, WaitingEntry, World, SourceLine, numbered_lines, trimmed, Event, Thing, took, emitted, raws, AllByRecursion, PassesThrough, IsStretchAt, line_with_newline, lines_next, trimmed_with_newlines, sources_next, with_newlines, all_but_last, OnlyLastExceeds, stretch_bytes, matches_at, number_or_zero, source_depth, AreShort, emitted_lines, openings, size_of_lines, taken_lines, reported_faults, merge, written_lines, Stretch, OpenSource, append-nil, append_assoc, counters_of, optional_string_bytes, Line, EmitsLines, so_far_of, events_to_come, pending_of, opened_file_names, ComesNext, EmitsBufferedLines, AppendsPassedLines, PassesTop, top_of, things_in, StaysBelow, lines_at, TakenCounters, MergeState, Stack}
+use Rattle.cweb_lines.proofs.Common.{rules, ◌≡◌, ◌≤◌, ◌<◌, ◌+◌, ◌-◌, ℕ, zero, suc, Bool, List, [], ◌∷◌, ◌++◌, length, map, take, Option, Some, None, refl, sym, ◌∙◌, ap, arith, length-append, length-map, Place, WaitingEntry, World, SourceLine, numbered_lines, trimmed, Event, Thing, took, emitted, raws, AllByRecursion, PassesThrough, IsRunAt, IsStretchAt, line_with_newline, lines_next, trimmed_with_newlines, sources_next, with_newlines, all_but_last, OnlyLastExceeds, stretch_bytes, matches_at, number_or_zero, source_depth, AreShort, emitted_lines, openings, size_of_lines, taken_lines, reported_faults, merge, written_lines, Stretch, OpenSource, append-nil, append_assoc, counters_of, optional_string_bytes, Line, EmitsLines, so_far_of, events_to_come, pending_of, opened_file_names, ComesNext, EmitsBufferedLines, AppendsPassedLines, PassesTop, top_of, things_in, StaysBelow, lines_at, TakenCounters, MergeState, Stack}
+use Rattle.cweb_lines.proofs.LinesInBuffer.{run_at}
 use Rattle.cweb_lines.proofs.Merges.{merge_emitted, state}
 use Rattle.cweb_lines.proofs.TrimmedLines.{trimmed-length}
 use Rattle.cweb_lines.proofs.EmittedLinesAddUp.{yields_both}
@@ -83,19 +84,19 @@ numbered-text file number (line ∷ lines) = simp (numbered-text file (number + 
 
 pub next-length : {R : Type 0} (entry : Option WaitingEntry) (slot : Option (OpenSource R)) (s : Stretch)
     (lines : List (List ℕ))
-    → IsStretchAt entry slot s lines → length (sources_next slot lines) ≡ length lines
+    → IsRunAt entry slot s lines → length (sources_next slot lines) ≡ length lines
 next-length entry None s lines in_place = absurd in_place
 next-length entry (Some text) s lines in_place = numbered-length text.file.0 (text.line + 1) lines
 
 pub next-size : {R : Type 0} (entry : Option WaitingEntry) (slot : Option (OpenSource R)) (s : Stretch)
     (lines : List (List ℕ))
-    → IsStretchAt entry slot s lines → size_of_lines (sources_next slot lines) ≡ length (with_newlines lines)
+    → IsRunAt entry slot s lines → size_of_lines (sources_next slot lines) ≡ length (with_newlines lines)
 next-size entry None s lines in_place = absurd in_place
 next-size entry (Some text) s lines in_place = numbered-size text.file.0 (text.line + 1) lines
 
 pub next-short : {R : Type 0} (entry : Option WaitingEntry) (slot : Option (OpenSource R)) (s : Stretch)
     (lines : List (List ℕ))
-    → IsStretchAt entry slot s lines → AreShort (sources_next slot lines)
+    → IsRunAt entry slot s lines → AreShort (sources_next slot lines)
 next-short entry None s lines in_place = absurd in_place
 next-short entry (Some text) s lines in_place = numbered-short _ _ _ _ _ in_place.is.passing
 
@@ -151,6 +152,7 @@ module _ {R : Type 0} (run : MergeState R) (stack : Stack R) (limits : TakenCoun
       (length (opened_file_names run.names))
       (things_in l run.stage (lines_at l run.change) stack))
   yields_next t l =
+      let here = run_at (pending_of run) (top_of run.stack) s lines next.in_place in
       grind (
         arith,
         passes_in,
@@ -160,9 +162,9 @@ module _ {R : Type 0} (run : MergeState R) (stack : Stack R) (limits : TakenCoun
         append-nil,
         events-unopened,
         events-taken,
-        next-length,
-        next-size,
-        next-short,
+        next-length (pending_of run) (top_of run.stack) s lines here,
+        next-size (pending_of run) (top_of run.stack) s lines here,
+        next-short (pending_of run) (top_of run.stack) s lines here,
       )
 
 pub passes_next : {R : Type 0} (room : ℕ) (old new : MergeState R) (s : Stretch) (lines : List (List ℕ))

@@ -37,6 +37,14 @@ all_but_last list = take (length list - 1) list
 abbrev pub OnlyLastExceeds : ℕ → List (List ℕ) → Type 0
 OnlyLastExceeds room raw_lines = 1 < length raw_lines → length (with_newlines (all_but_last raw_lines)) < room
 
+-- Adjacent lines in the buffer that pass through. Each may have trailing blanks, so `s.text` says nothing here.
+pub record IsRun (entry : Option WaitingEntry) (may_match : Bool) (buffer : List ℕ) (start : ℕ) (s : Stretch)
+    (raw_lines : List (List ℕ)) : Type 0 where
+  pub passing : AllByRecursion (PassesThrough entry may_match) raw_lines
+  pub lines : s.lines ≡ length raw_lines
+  pub in_place : slice_range buffer start s.end ≡ with_newlines raw_lines
+  pub size : start + length (with_newlines raw_lines) ≡ s.end
+
 -- Adjacent lines in the buffer that pass through. All but the last are printed as they are, and the last one trimmed.
 pub record IsStretch (entry : Option WaitingEntry) (may_match : Bool) (buffer : List ℕ) (start : ℕ) (s : Stretch)
     (raw_lines : List (List ℕ)) : Type 0 where
@@ -64,6 +72,16 @@ pub record IsStretchOf {R : Type 0} (entry : Option WaitingEntry) (text : OpenSo
 abbrev pub IsStretchAt : {R : Type 0} → Option WaitingEntry → Option (OpenSource R) → Stretch → List (List ℕ) → Type 0
 IsStretchAt entry None s raw_lines = ⊥
 IsStretchAt entry (Some text) s raw_lines = IsStretchOf entry text s raw_lines
+
+-- The next lines in the buffer of a source, however they are printed.
+pub record IsRunOf {R : Type 0} (entry : Option WaitingEntry) (text : OpenSource R) (s : Stretch)
+    (raw_lines : List (List ℕ)) : Type 0 where
+  pub is : IsRun entry text.may_match text.source.buffer.items text.source.start s raw_lines
+  pub within : s.end ≤ text.source.end
+
+abbrev pub IsRunAt : {R : Type 0} → Option WaitingEntry → Option (OpenSource R) → Stretch → List (List ℕ) → Type 0
+IsRunAt entry None s raw_lines = ⊥
+IsRunAt entry (Some text) s raw_lines = IsRunOf entry text s raw_lines
 
 -- The lines are within the limits.
 pub record HasRoomFor (limits : TakenCounters) (raw_lines : List (List ℕ)) : Type 0 where

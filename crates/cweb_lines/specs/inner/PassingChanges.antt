@@ -9,7 +9,7 @@ use Rattle.cweb_lines.specs.surface.MergeProgress.{MergeState, change_lines}
 use Rattle.cweb_lines.specs.surface.MergerCalls.{AreReadersKnown}
 use Rattle.cweb_lines.specs.surface.OpenSources.{OpenSource, counters_of, matches_at}
 use Rattle.cweb_lines.specs.inner.OpenSources.{CountsLine}
-use Rattle.cweb_lines.specs.inner.Passing.{AppendsPassedLines, IsStretchAt, buffer_of, stretch_bytes, with_newlines}
+use Rattle.cweb_lines.specs.inner.Passing.{AppendsPassedLines, IsRunAt, IsStretchAt, buffer_of, stretch_bytes, with_newlines}
 use Rattle.cweb_lines.specs.inner.StepCalls.{OnlyTakes}
 use Rattle.cweb_lines.specs.declared.counters.TakenCounters.{TakenCounters}
 use Rattle.cweb_lines.specs.declared.limits.TheConstants.{BYTES, LINES}
@@ -28,10 +28,10 @@ last_bytes slot lines = slice_range (buffer_of slot) lines.last lines.all.text
 -- These lines and one more come next in the buffer of a slot's source. None is an include line.
 pub record AreAhead {R : Type 0} (slot : Option (OpenSource R)) (lines : LinesAhead) (before : List (List ℕ))
     (raw : List ℕ) : Type 0 where
-  pub in_place : IsStretchAt None slot lines.all (before ++ raw ∷ [])
+  pub in_place : IsRunAt None slot lines.all (before ++ raw ∷ [])
   pub bytes : last_bytes slot lines ≡ trimmed raw
   pub order : lines.last ≤ lines.all.text
-  pub within : lines.all.end ≤ length (buffer_of slot)
+  pub within : lines.all.text ≤ length (buffer_of slot)
   pub small : length (with_newlines (before ++ raw ∷ [])) ≤ 1048576
 
 -- The web's next lines equal the first old line of an entry and these further ones. One more line of the change file

@@ -2,7 +2,7 @@
 ghost use Rattle.std.specs.Prelude.{◌≡◌, ◌≤◌, ◌<◌, ◌+◌, ℕ, List, Option, length};
 ghost use Rattle.cweb_lines.specs.Change.{WaitingEntry};
 ghost use Rattle.cweb_lines.specs.inner.Passing.{ComesNext, EmitsBufferedLines, HasRoomFor, KeepsLevel, KeepsTop};
-ghost use Rattle.cweb_lines.specs.inner.Passing.{PassesSlot, PassesTop, IsStretchAt, IsStretchOf, lines_next};
+ghost use Rattle.cweb_lines.specs.inner.Passing.{PassesSlot, PassesTop, IsRunAt, IsRunOf, lines_next};
 ghost use Rattle.cweb_lines.specs.inner.Passing.{buffer_of, with_newlines, top_of};
 ghost use Rattle.cweb_lines.specs.inner.OpenSources.{line_number, maximum_of};
 ghost use Rattle.cweb_lines.specs.surface.OpenSources.{number_or_zero};
@@ -18,10 +18,10 @@ use crate::passing::stretch::Stretch;
 #[inline(always)]
 fn advance_source<R: Drop>(text: &mut OpenSource<R>, limits: &mut TakenCounters, stretch: Stretch)
     requires next { (entry : Option WaitingEntry) × (lines : List (List ℕ))
-        × IsStretchOf entry text.old stretch lines × HasRoomFor limits.old lines }
+        × IsRunOf entry text.old stretch lines × HasRoomFor limits.old lines }
     requires number { text.old.line ≤ limits.old.lines }
     ensures passes { (entry : Option WaitingEntry) → (lines : List (List ℕ)) →
-        IsStretchOf entry text.old stretch lines →
+        IsRunOf entry text.old stretch lines →
         PassesSlot (Some text.old) (Some text.new) limits.old limits.new lines }
     ensures level { KeepsLevel (Some text.old) (Some text.new) }
     ensures more { limits.old.lines ≤ limits.new.lines }
@@ -39,10 +39,10 @@ pub fn advance_slot<R: Drop>(
     stretch: Stretch,
 )
     requires next { (entry : Option WaitingEntry) × (lines : List (List ℕ))
-        × IsStretchAt entry slot.old stretch lines × HasRoomFor limits.old lines }
+        × IsRunAt entry slot.old stretch lines × HasRoomFor limits.old lines }
     requires number { number_or_zero line_number slot.old ≤ limits.old.lines }
     ensures passes { (entry : Option WaitingEntry) → (lines : List (List ℕ)) →
-        IsStretchAt entry slot.old stretch lines →
+        IsRunAt entry slot.old stretch lines →
         PassesSlot slot.old slot.new limits.old limits.new lines }
     ensures level { KeepsLevel slot.old slot.new }
     ensures more { limits.old.lines ≤ limits.new.lines }
@@ -59,10 +59,10 @@ pub fn advance_top<R: Drop>(stack: &mut Stack<R>, limits: &mut TakenCounters, st
     requires some { 0 < stack.old.depth }
     requires shallow { stack.old.depth ≤ OPEN_FILES }
     requires next { (entry : Option WaitingEntry) × (lines : List (List ℕ))
-        × IsStretchAt entry (top_of stack.old) stretch lines × HasRoomFor limits.old lines }
+        × IsRunAt entry (top_of stack.old) stretch lines × HasRoomFor limits.old lines }
     requires numbers { maximum_of line_number stack.old.texts ≤ limits.old.lines }
     ensures passes { (entry : Option WaitingEntry) → (lines : List (List ℕ)) →
-        IsStretchAt entry (top_of stack.old) stretch lines →
+        IsRunAt entry (top_of stack.old) stretch lines →
         PassesTop stack.old stack.new limits.old limits.new lines }
     ensures keeps { KeepsTop stack.old stack.new }
     ensures more { limits.old.lines ≤ limits.new.lines }

@@ -84,7 +84,7 @@ impl<R: Drop> MergeState<R> {
             return Ok(false);
         };
         let source = &text.source;
-        if begin.text + 1 != begin.end || begin.end >= source.lines_end {
+        if begin.end >= source.lines_end {
             return Ok(false);
         }
         let Some(next) = line_from(source, begin.end, Stage::Done, &[], text.may_match) else {

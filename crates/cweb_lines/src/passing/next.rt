@@ -62,8 +62,8 @@ pub fn depth_in<R: Drop>(slot: &Option<OpenSource<R>>) -> usize
     }
 }
 
-/// Next lines of a slot's source that are in its buffer. None is an include line. Together they have at most the bytes
-/// of one line of the maximum length.
+/// Next lines of a slot's source that are in its buffer. None is an include line. Each may have trailing blanks, since
+/// they aren't printed. Together they have at most the bytes of one line of the maximum length.
 #[derive(Clone, Copy)]
 pub struct LinesAhead {
     pub all: Stretch,
@@ -100,7 +100,7 @@ pub fn one_more_ahead<R: Drop>(
         return None;
     };
     let all = lines.all;
-    if all.text + 1 != all.end || all.end >= text.source.lines_end {
+    if all.end >= text.source.lines_end {
         return None;
     }
     let next = line_from(&text.source, all.end, Stage::Done, &[], text.may_match)?;

@@ -62,11 +62,13 @@ fn writes_of_many_changes(rt: HostRuntime) -> Result<(), Fail> {
     writes_of_changes(&rt, WEB, b"@x\nold\n@y\n@z why\n\n", b"kept\n")
 }
 
-// So are changes of several lines. The last old line may have trailing blanks.
+// So are changes of several lines, whatever blanks are at the ends of lines.
 #[test]
 fn writes_of_changes_of_several_lines(rt: HostRuntime) -> Result<(), Fail> {
-    const WEB: &[u8] = b"a\nb\nc \nkept\n";
-    writes_of_changes(&rt, WEB, b"@x\na\nb\nc\n@y\nd\n@z\n", b"d\nkept\n")
+    const WEB: &[u8] = b"a\nb\t\nc\r\nkept\n";
+    const CHANGED: &[u8] = b"d\nkept\n";
+    writes_of_changes(&rt, WEB, b"@x\na\nb\nc\n@y\nd\n@z\n", CHANGED)?;
+    writes_of_changes(&rt, WEB, b"@x \na \nb\nc \n@y\nd\n@z\n", CHANGED)
 }
 
 // Old sides of several lines: equal, with a blank, unequal, and with an include line.

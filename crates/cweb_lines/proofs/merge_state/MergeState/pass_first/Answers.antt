@@ -1,4 +1,4 @@
-use Rattle.cweb_lines.proofs.Common.{◌==◌, ◌∙◌, ℕ, List, [], ◌∷◌, None, ap, sym, refl, subst, arith, change_code, length, slice_range, IsStretchAt}
+use Rattle.cweb_lines.proofs.Common.{◌==◌, ◌∙◌, ℕ, List, [], ◌∷◌, None, ap, sym, refl, subst, arith, change_code, length, slice_range, IsRunAt, IsStretchAt}
 use Rattle.cweb_lines.proofs.PlainLines.{no_code}
 use Rattle.cweb_lines.proofs.NextLines.{silent_none, text_is}
 use Rattle.cweb_lines.proofs.PassedChanges.{entry_passes, two_lines, two_sizes}
@@ -17,12 +17,12 @@ pub advance_slot-requires-clause-next : goal.advance_slot-requires-clause-next
 advance_slot-requires-clause-next g c =
     let x = c.requires.next.0 in
     let two = two_lines c.in-Some.text c.args.begin c.in-Some-line_from.next c.then.result x
-    (subst (λ o. IsStretchAt None o c.args.begin (x ∷ [])) c.in-Some.is c.requires.next.1) c.if-begin.false
-    c.in-Some-line_from.ensures.line c.in-Some-line_from.ensures.one c.then.ensures.text c.then.ensures.end
+    (subst (λ o. IsStretchAt None o c.args.begin (x ∷ [])) c.in-Some.is c.requires.next.1)
+    c.in-Some-line_from.ensures.line c.in-Some-line_from.ensures.one c.then.ensures.end
     c.then.ensures.lines in (
       None,
       x ∷ two.raw_line ∷ [],
-      subst (λ o. IsStretchAt None o c.then.result (x ∷ two.raw_line ∷ [])) (sym c.in-Some.is) two.in_place,
+      subst (λ o. IsRunAt None o c.then.result (x ∷ two.raw_line ∷ [])) (sym c.in-Some.is) two.in_place,
       record {
         few = omega (arith, c.requires.two.few);
         small = omega (
@@ -39,11 +39,11 @@ pub returns : goal.returns
 returns g c =
     let x = c.requires.next.0 in
     let two = two_lines c.in-Some.text c.args.begin c.in-Some-line_from.next c.then.result x
-    (subst (λ o. IsStretchAt None o c.args.begin (x ∷ [])) c.in-Some.is c.requires.next.1) c.if-begin.false
-    c.in-Some-line_from.ensures.line c.in-Some-line_from.ensures.one c.then.ensures.text c.then.ensures.end
+    (subst (λ o. IsStretchAt None o c.args.begin (x ∷ [])) c.in-Some.is c.requires.next.1)
+    c.in-Some-line_from.ensures.line c.in-Some-line_from.ensures.one c.then.ensures.end
     c.then.ensures.lines in
     let passes = c.advance_slot.ensures.passes None (x ∷ two.raw_line ∷ [])
-    (subst (λ o. IsStretchAt None o c.then.result (x ∷ two.raw_line ∷ [])) (sym c.in-Some.is) two.in_place) in
+    (subst (λ o. IsRunAt None o c.then.result (x ∷ two.raw_line ∷ [])) (sym c.in-Some.is) two.in_place) in
     let begins = ap change_code (sym (text_is c.args.begin x c.args.self.now.change c.requires.next.1))
     ∙ c.requires.begins in
     let same = ap (λ (b : List ℕ). slice_range b c.args.begin.end c.in-Some-line_from.next.text) c.deref.ensures.value

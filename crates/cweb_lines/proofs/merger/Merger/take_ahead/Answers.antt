@@ -1,4 +1,5 @@
 use Rattle.cweb_lines.proofs.Common.{arith, length-map, pending_of, sources_next, top_of}
+use Rattle.cweb_lines.proofs.LinesInBuffer.{run_at}
 use Rattle.cweb_lines.proofs.Lookahead.{borrows_lines}
 use Rattle.cweb_lines.proofs.Passes.{next-length}
 use Rattle.cweb_lines.proofs.merger.Merger.take_ahead.Goals as goal
@@ -13,7 +14,8 @@ returns g c = λ lines next.
       count = omega (
         arith,
         emitted.counted,
-        next-length (pending_of run) (top_of run.stack) c.args.ahead.stretch lines next.in_place,
+        next-length (pending_of run) (top_of run.stack) c.args.ahead.stretch lines
+            (run_at (pending_of run) (top_of run.stack) c.args.ahead.stretch lines next.in_place),
         length-map (sources_next (top_of run.stack) lines) (λ source. source.line),
       );
       borrows = borrows_lines run c.advance.new.self _ emitted;

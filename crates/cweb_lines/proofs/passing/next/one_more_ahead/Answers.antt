@@ -12,5 +12,5 @@ then-requires g c =
 
 pub returns-clause-more : goal.returns-clause-more
 returns-clause-more g c = λ before raw ahead. more_ahead c.args.slot.now c.in-Some.text c.args.lines c.in_ok-next.next
-    c.then.result before raw c.in-Some.is ahead c.if-all.false c.in_ok-next.ensures.line c.in_ok-next.ensures.one
+    c.then.result before raw c.in-Some.is ahead c.in_ok-next.ensures.line c.in_ok-next.ensures.one
     (omega (arith, c.if-next-text.false)) c.then.ensures.text c.then.ensures.end c.then.ensures.lines
