@@ -37,6 +37,8 @@ lozgirpa_words = $(subst |,\$(lozgirpa_blank),$(subst =,$$(lozgirpa_equals),$1))
 lozgirpa_quoted = $(foreach name,$1,'$(call lozgirpa_plain,$(subst ','\'',$(name)))')
 lozgirpa_bad_signs = $(strip $(foreach sign,$(lozgirpa_signs) \,$(findstring $(sign),$(subst \$(lozgirpa_blank),,$1))))
 lozgirpa_missing = $(strip $(foreach name,$1,$(if $(wildcard $(subst |,\$(lozgirpa_blank),$(name))),,$(name))))
+# A path as one name. Different paths have different names.
+lozgirpa_flat = $(subst |,-_,$(subst /,-.,$(subst -,--,$1)))
 lozgirpa_is = $(and $(findstring x$1x,x$2x),$(findstring x$2x,x$1x))
 
 web = $(if $(call lozgirpa_bad_signs,$1$2$3$4),$(error web $1: make cannot read $(call lozgirpa_bad_signs,$1$2$3$4) in names)) \
@@ -47,8 +49,8 @@ web = $(if $(call lozgirpa_bad_signs,$1$2$3$4),$(error web $1: make cannot read 
     $(eval lozgirpa_change := $(call lozgirpa_names,$3)) \
     $(eval lozgirpa_inputs := $(call lozgirpa_names,$4)) \
     $(eval lozgirpa_options := $(or $(strip $5),-bph)) \
-    $(eval lozgirpa_stamp := $(WEB_STAMPS)/$(subst /,-,$(subst |,-,$(firstword $(lozgirpa_outputs)))).stamp) \
     $(eval lozgirpa_paths := $(addprefix $(filter-out ./,$(lozgirpa_folder)/),$(lozgirpa_outputs))) \
+    $(eval lozgirpa_stamp := $(WEB_STAMPS)/$(call lozgirpa_flat,$(firstword $(lozgirpa_paths))).stamp) \
     $(eval lozgirpa_run := make $(lozgirpa_stamp) $(call lozgirpa_plain,$(lozgirpa_folder) $(lozgirpa_inputs) $(lozgirpa_options) \
 $(lozgirpa_web) $(or $(lozgirpa_change),-) $(lozgirpa_outputs))) \
     $(eval $(lozgirpa_rules)) \
