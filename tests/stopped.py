@@ -1,13 +1,15 @@
-"""A program that is stopped before one of its system calls, by ptrace. So another run can do anything while this one stands there."""
+"""Programs that are stopped before one of their system calls, by ptrace. So another run can do anything while this one stands there."""
 import ctypes
 import os
 import signal
+import time
 
 TRACE_ME, GO_ON, DETACH, SET_OPTIONS = 0, 24, 17, 0x4200
 # a stop at a system call, and not by a signal, is shown by this bit
 TELL_CALLS = 1
 AT_CALL = signal.SIGTRAP | 0x80
-FLOCK = "73"
+FLOCK, RENAME = 73, 82
+TICK = 0.0005
 
 library = ctypes.CDLL(None, use_errno=True)
 library.ptrace.argtypes = [ctypes.c_long, ctypes.c_long, ctypes.c_void_p, ctypes.c_void_p]
@@ -19,11 +21,25 @@ def trace(request, run, data=0):
         raise OSError(number, f"ptrace: {os.strerror(number)}")
 
 
-class Stopped:
-    """A run that stands before its system call `call`, or has ended if it makes fewer."""
+def call_of(run):
+    """The number of the system call that a process is in, or None."""
+    try:
+        with open(f"/proc/{run}/syscall", encoding="ascii") as file:
+            return int(file.read().split()[0])
+    except (OSError, IndexError, ValueError):
+        return None
 
-    def __init__(self, words, call):
-        self.status = None
+
+def waits_for_lock(run):
+    return call_of(run) == FLOCK
+
+
+class Stopped:
+    """A run that stands before the first system call for which `stops` is true of its index, from 1, and its number. If there is none, it
+    has ended. `wait` is called if the run waits for a lock on its way there."""
+
+    def __init__(self, words, stops, wait=None):
+        self.status, self.wait = None, wait
         self.log, log = os.pipe()
         self.run = os.fork()
         if self.run == 0:
@@ -31,10 +47,10 @@ class Stopped:
         os.close(log)
         os.waitpid(self.run, 0)
         trace(SET_OPTIONS, self.run, TELL_CALLS)
+        index = 1
         # each call stops the run twice: before it and after it
-        for _ in range(2 * call - 1):
-            if not self.step():
-                return
+        while self.step() and not stops(index, call_of(self.run)) and self.step():
+            index += 1
 
     @staticmethod
     def begin(words, log):
@@ -53,7 +69,7 @@ class Stopped:
         caught = 0
         while True:
             trace(GO_ON, self.run, caught)
-            _, status = os.waitpid(self.run, 0)
+            status = self.next_status()
             if not os.WIFSTOPPED(status):
                 self.status = status
                 return False
@@ -61,19 +77,38 @@ class Stopped:
             if caught == AT_CALL:
                 return True
 
-    def end(self):
-        """Goes on to its end. Returns its status and its log."""
+    def next_status(self):
+        run, status = os.waitpid(self.run, os.WNOHANG if self.wait else 0)
+        while run == 0:
+            if self.wait and waits_for_lock(self.run):
+                self.wait()
+                self.wait = None
+            time.sleep(TICK)
+            run, status = os.waitpid(self.run, os.WNOHANG)
+        return status
+
+    def go_on(self):
+        """Goes on without further stops."""
         if self.status is None:
             trace(DETACH, self.run)
+
+    def poll(self):
+        """The status, if it has ended."""
+        if self.status is None:
+            run, status = os.waitpid(self.run, os.WNOHANG)
+            self.status = status if run else None
+        return self.status
+
+    def end(self):
+        """Waits for its end. Returns its status and its log."""
+        if self.status is None:
             self.status = os.waitpid(self.run, 0)[1]
         with os.fdopen(self.log, "rb") as log:
             return os.waitstatus_to_exitcode(self.status), log.read()
 
 
-def waits_for_lock(run):
-    """Whether a process is inside `flock`."""
-    try:
-        with open(f"/proc/{run}/syscall", encoding="ascii") as file:
-            return file.read().split()[0] == FLOCK
-    except (OSError, IndexError):
-        return False
+def goes_as_far(run, number, seconds):
+    """Waits until a run, which is a process with this number, has ended or waits for a lock."""
+    until = time.monotonic() + seconds
+    while run.poll() is None and not waits_for_lock(number) and time.monotonic() < until:
+        time.sleep(TICK)
