@@ -3,27 +3,28 @@
 #   list(APPEND CMAKE_MODULE_PATH /path/to/lozgirpa)
 #   include(UseLozgirpa)
 #
-#   lozgirpa_web(roman WEB roman.w OUTPUTS roman.c numeral.h numeral.c)
+#   lozgirpa_web(roman WEB roman.w OUTPUTS roman.c numeral.h numeral.c TARGET roman)
 #   add_executable(roman ${roman_TANGLED})
-#   add_dependencies(roman roman_web)
 #
-# lozgirpa_web(NAME WEB web OUTPUTS file.. [CHANGE file] [INPUTS folder] [OPTIONS word])
+# lozgirpa_web(NAME WEB web OUTPUTS file.. [TARGET target] [CHANGE file] [INPUTS folder] [OPTIONS word])
 #
 #   WEB      the web
 #   OUTPUTS  the files that it makes, by the names that the web gives them, the main file first
+#   TARGET   the target that uses them, of this folder: it then depends on the web. The target may be added later.
 #   CHANGE   the change file
 #   INPUTS   the folder in which included files are looked up, if not that of the web
 #   OPTIONS  one option word for ctangle, if not -bph
 #
-# Names are relative to the source folder, and outputs go to the binary folder. NAME_TANGLED lists their full paths. Each
-# target that uses them depends on the target NAME_web. CTANGLE and WDEP name the programs.
+# Names are relative to the source folder, and outputs go to the binary folder. NAME_TANGLED lists their full paths. With
+# make, a target that uses them and does not depend on the web is built from old text. Let each further target depend on
+# it, too: add_dependencies(other roman_web). CTANGLE and WDEP name the programs.
 cmake_minimum_required(VERSION 3.20)
 find_program(CTANGLE ctangle REQUIRED)
 find_program(WDEP wdep REQUIRED)
 set(LOZGIRPA_SCRIPT ${CMAKE_CURRENT_LIST_DIR}/tangle-web)
 
 function(lozgirpa_web name)
-    cmake_parse_arguments(PARSE_ARGV 1 arg "" "WEB;CHANGE;INPUTS;OPTIONS" "OUTPUTS")
+    cmake_parse_arguments(PARSE_ARGV 1 arg "" "WEB;TARGET;CHANGE;INPUTS;OPTIONS" "OUTPUTS")
     if(NOT arg_WEB OR NOT arg_OUTPUTS OR arg_UNPARSED_ARGUMENTS)
         message(FATAL_ERROR "lozgirpa_web: give a name, WEB and OUTPUTS; not known: ${arg_UNPARSED_ARGUMENTS}")
     endif()
@@ -74,5 +75,9 @@ function(lozgirpa_web name)
         COMMENT "tangling ${arg_WEB}"
         VERBATIM)
     add_custom_target(${name}_web DEPENDS "${CMAKE_CURRENT_BINARY_DIR}/${stamp}")
+    if(arg_TARGET)
+        # at the end of the folder, when the target is there; the names are those of this call
+        cmake_language(EVAL CODE "cmake_language(DEFER CALL add_dependencies [[${arg_TARGET}]] [[${name}_web]])")
+    endif()
     set(${name}_TANGLED ${paths} PARENT_SCOPE)
 endfunction()

@@ -119,13 +119,15 @@ class CMake:
         for number, web in enumerate(webs):
             outputs = " ".join(f'"{output}"' for output in web.outputs)
             more = "".join(f' {name} "{file}"' for name, file in (("CHANGE", web.change), ("INPUTS", web.inputs)) if file)
+            # the target of each second web depends on it by a line of its own
+            more += " TARGET all_webs" if number % 2 else ""
             lines.append(f'lozgirpa_web(web{number} WEB "{web.file}" OUTPUTS {outputs}{more})')
         if compiles:
             numbers = range(len(webs))
             lines += ["add_library(all_webs OBJECT", *(f"    ${{web{number}_TANGLED}}" for number in numbers), ")",
-                      "add_dependencies(all_webs", *(f"    web{number}_web" for number in numbers), ")"]
+                      "add_dependencies(all_webs", *(f"    web{number}_web" for number in numbers[::2]), ")"]
         else:
-            lines += ["add_custom_target(all_webs ALL)", *(f"add_dependencies(all_webs web{number}_web)" for number in range(len(webs)))]
+            lines += ["add_custom_target(all_webs ALL)", *(f"add_dependencies(all_webs web{number}_web)" for number in range(0, len(webs), 2))]
         write(project.source, "CMakeLists.txt", "\n".join([*lines, ""]))
 
     def command(self, project):
