@@ -1,5 +1,5 @@
 -- The contents of a table of occurrences, and what they resolve to.
-use Rattle.cweb_store.proofs.Common.{◌≡◌, ℕ, ◌+◌, List, [], ◌∷◌, ◌++◌, map, length, drop, set, refl, sym, ◌∙◌, ap, subst, arith, length-append, append_assoc, slice_get, slice_get-map, slice_get_within, Some, Bool, IfOk, bytes_eq, position_or_len, spellings, How, Full, Prefix, string_at, Occurrence, Name, NamesSoFar, Resolution, names, with_occurrence_name, names_from, resolved_among, resolutions_from, resolutions, early, earlies_from, resolve, resolve_all, occurrence_text}
+use Rattle.cweb_store.proofs.Common.{◌≡◌, ℕ, zero, suc, ◌+◌, List, [], ◌∷◌, ◌++◌, map, length, drop, set, refl, sym, ◌∙◌, ap, subst, arith, length-append, append_assoc, slice_get, slice_get-map, slice_get_within, Some, Bool, IfOk, bytes_eq, position_or_len, spellings, How, Full, Prefix, string_at, Occurrence, Name, NamesSoFar, Resolution, names, with_occurrence_name, names_from, resolved_among, resolutions_from, resolutions, early, earlies_from, resolve, resolve_all, occurrence_text}
 use Rattle.cweb_store.specs.inner.Known.{numbered, numbered_from}
 use Rattle.cweb_store.proofs.NameLemmas.{prefix_at}
 use Rattle.cweb_store.proofs.StringListLemmas.{get-string}
@@ -122,6 +122,19 @@ resolved-next ns ts old i now t e x all text there is =
           ∙ (λ j. all.done ++ resolve_all ns (sym (drop-at ts i t text) j) (sym (drop-at old i e there) j))
           ∙ all.found;
     }
+
+set-same : (rs : List Resolution) (i : ℕ) (r : Resolution) → slice_get rs i ≡ Some r → set rs i r ≡ rs
+set-same [] zero r there = refl
+set-same [] (suc i) r there = refl
+set-same (s ∷ rs) zero r there = let same : s ≡ r = cc in ap (λ (x : Resolution). x ∷ rs) (sym same)
+set-same (s ∷ rs) (suc i) r there = ap (λ us. s ∷ us) (set-same rs i r there)
+
+pub resolved-stays : (ns : List Name) (ts : List (List ℕ)) (old : List Resolution) (i : ℕ) (now : List Resolution)
+    (t : List ℕ) (e : Resolution) → AreResolved ns ts old i now → slice_get ts i ≡ Some t
+    → slice_get old i ≡ Some e → resolve ns t e ≡ e → AreResolved ns ts old (i + 1) now
+resolved-stays ns ts old i now t e all text there same =
+    subst (AreResolved ns ts old (i + 1)) (set-same now i e (resolved-get ns ts old i now e all there))
+    (resolved-next ns ts old i now t e e all text there (sym same))
 
 -- The text of an occurrence, and the place of a numbered one.
 pub text-is : (os : List Occurrence) (i : ℕ) (o : Occurrence) (strings : List (List ℕ))

@@ -1,7 +1,9 @@
 // The occurrences of names, and what they resolve to.
-ghost use Rattle.std.specs.Prelude.{◌≡◌, ◌<◌, ◌+◌, ◌^◌, [], map, length, option_map, slice_get, Some, IfOk, OnOk};
+ghost use Rattle.std.specs.Prelude.{◌≡◌, ◌<◌, ◌+◌, ◌^◌, [], List, ℕ, map, length, option_map, slice_get, Some};
+ghost use Rattle.std.specs.Prelude.{IfOk, IfSome, OnOk};
 ghost use Rattle.cweb_store.specs.Names.{names, resolutions};
 ghost use Rattle.cweb_store.specs.inner.Known.{files_from, earlies_from, number_at, numbered_from, with_number};
+ghost use Rattle.cweb_store.specs.inner.Known.{ArePositions, IsPosition};
 ghost use Rattle.cweb_store.specs.surface.Tokens.{AreInOneList, distinct_strings, occurrence_text, too_many, total};
 
 use crate::known::KnownNames;
@@ -98,14 +100,16 @@ impl Occurrences {
     }
 
     // Resolves each full name to its number, and no abbreviation. The numbers of spellings are a set in order of first
-    // sight, and nobody can choose them. It is freed before names are sorted.
+    // sight, and nobody can choose them. A spelling that comes again is found by its number alone. Set and positions are
+    // freed before names are sorted.
     fn numbered(&self) -> Result<Resolutions, AllocError>
         ensures { IfOk result (λ all. all.items ≡ numbered_from 0 [] self.now) }
     {
         let mut names = IndexSet::new(self.alloc);
+        let mut positions = Vec::from_elem(self.alloc, None, self.strings.len())?;
         let mut all = Vec::with_capacity(self.alloc, self.records.len())?;
         for occurrence in &self.records {
-            all.push(number_in(&mut names, *occurrence)?)?;
+            all.push(number_in(&mut names, &mut positions, *occurrence)?)?;
         }
         Ok(all)
     }
@@ -132,17 +136,48 @@ impl Occurrences {
 // The number of a full name among those before it and its own. An abbreviation is not resolved.
 fn number_in(
     names: &mut IndexSet<u32>,
+    positions: &mut Vec<Option<NameId>>,
     occurrence: OccurrenceRecord,
 ) -> Result<Result<NameId, NameKind>, AllocError>
-    requires { length names.old.keys + 1 < 2 ^ 32 }
+    requires few { length names.old.keys + 1 < 2 ^ 32 }
+    requires positions { ArePositions names.old.keys positions.old.items }
     ensures number { IfOk result (λ number. number ≡ number_at names.old.keys occurrence) }
     ensures names { OnOk result (names.new.keys ≡ with_number names.old.keys occurrence) }
+    ensures positions { OnOk result (ArePositions names.new.keys positions.new.items) }
 {
     match occurrence.how {
         How::Full => {
-            let (number, _) = names.insert_full(occurrence.spelling.get())?;
-            Ok(Ok(NameId(number as u32)))
+            let spelling = occurrence.spelling.get();
+            if let Some(id) = position_of(positions, spelling) {
+                return Ok(Ok(id));
+            }
+            let (number, _) = names.insert_full(spelling)?;
+            let id = NameId(number as u32);
+            record_position(positions, spelling, id);
+            Ok(Ok(id))
         }
         How::Prefix => Ok(Err(NameKind::NeverFull)),
+    }
+}
+
+// The recorded position of a number.
+fn position_of(positions: &[Option<NameId>], number: u32) -> Option<NameId>
+    ensures { IfSome result (λ at. slice_get positions.now number ≡ Some (Some at)) }
+{
+    match positions.get(number as usize) {
+        Some(at) => *at,
+        None => None,
+    }
+}
+
+// Records the position of a number, if there is an entry for it.
+fn record_position(positions: &mut Vec<Option<NameId>>, number: u32, at: NameId)
+    ensures { (numbers : List ℕ) → ArePositions numbers positions.old.items
+        → IsPosition numbers number at
+        → ArePositions numbers positions.new.items }
+{
+    let place = number as usize;
+    if place < positions.len() {
+        positions[place] = Some(at);
     }
 }

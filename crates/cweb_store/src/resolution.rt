@@ -1,8 +1,7 @@
 // The names that occurrences resolve to.
-ghost use Rattle.std.specs.Prelude.{◌≡◌, ◌<◌, ◌^◌, length};
-ghost use Rattle.cweb_store.specs.Names.{resolved_at};
+ghost use Rattle.std.specs.Prelude.{◌≡◌, ◌<◌, ◌^◌, Err, List, ℕ, false, length, true};
+ghost use Rattle.cweb_store.specs.Names.{Name, resolved_at};
 ghost use Rattle.cweb_store.specs.inner.Known.{resolve, resolve_all};
-ghost use Rattle.cweb_store.specs.inner.StringLists.{string_at};
 
 use crate::known::KnownNames;
 use crate::name::{NameId, NameKind};
@@ -27,21 +26,16 @@ pub fn resolve_all(names: &KnownNames<'_>, all: &mut Resolutions)
     ensures { all.new.items ≡ resolve_all names.now.names names.now.strings all.old.items }
 {
     for i in 0..all.len() {
-        all[i] = resolve(names, i as u32, all[i]);
+        if is_open(all[i]) {
+            all[i] = names.find(i as u32).resolution();
+        }
     }
 }
 
-// The resolution of an occurrence among all names. `early`, its resolution among the names up to it, takes precedence.
-fn resolve(
-    names: &KnownNames<'_>,
-    occurrence: u32,
-    early: Result<NameId, NameKind>,
-) -> Result<NameId, NameKind>
-    requires { occurrence < length names.now.strings }
-    ensures { result ≡ resolve names.now.names (string_at names.now.strings occurrence) early }
+// Whether an occurrence resolves to no name before it. Any other resolution stays.
+fn is_open(early: Result<NameId, NameKind>) -> bool
+    ensures never { result ≡ true → early ≡ Err NameKind.NeverFull }
+    ensures stays { result ≡ false → (all : List Name) (text : List ℕ) → resolve all text early ≡ early }
 {
-    match early {
-        Err(NameKind::NeverFull) => names.find(occurrence).resolution(),
-        _ => early,
-    }
+    matches!(early, Err(NameKind::NeverFull))
 }

@@ -1,5 +1,5 @@
 -- The names so far, those that begin with a prefix, and what occurrences resolve to.
-use Rattle.std.specs.Prelude.{◌≡◌, ℕ, Bool, true, false, List, [], ◌∷◌, ◌+◌, Option, Some, None, map, filter, nat_eq}
+use Rattle.std.specs.Prelude.{◌≡◌, ℕ, Bool, true, false, List, [], ◌∷◌, ◌+◌, Option, Some, None, map, filter, nat_eq, slice_get}
 use Rattle.std.specs.Prelude.{bytes_eq, ◌||◌, if◌then◌else◌, ◌<◌, length, Ok, Err, fold}
 use Rattle.std.specs.List.{starts_with, AllByRecursion, list_any, position_or_len, enumerate_from}
 use Rattle.std.specs.Map.{lookup}
@@ -141,6 +141,16 @@ number_at numbers r = elim r.how [
 
 abbrev pub with_number : List ℕ → OccurrenceRecord → List ℕ
 with_number numbers r = elim r.how [ Full ↦ insert_key nat_eq numbers r.spelling | Prefix ↦ numbers ]
+
+-- A number is among these, and this is its position.
+pub record IsPosition (numbers : List ℕ) (number : ℕ) (at : NameId) : Type 0 where
+  pub among : list_any (nat_eq number) numbers ≡ true
+  pub position : position_or_len (nat_eq number) numbers ≡ at.0
+
+-- Each recorded position of a number is its own.
+abbrev pub ArePositions : List ℕ → List (Option NameId) → Type 0
+ArePositions numbers positions =
+    (number : ℕ) (at : NameId) → slice_get positions number ≡ Some (Some at) → IsPosition numbers number at
 
 -- The resolution among all names, if that among earlier names is that there is none.
 abbrev pub resolve : List Name → List ℕ → Resolution → Resolution
