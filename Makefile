@@ -41,8 +41,8 @@ TESTS ?=
 # with any letter after it: the programs were proved with 13b and with 13f
 KIT := rattle-kit-13
 SOURCES := HANDLES crates.txt $(shell find crates -name out -prune -o -type f \( -name '*.rt' -o -name '*.antt' \) -print)
-NOT_PROVED := echo 'NOTHING IN THIS BUILD IS PROVED. "make build" proves all programs (20 to 30 minutes the first time, on four processors),'; \
-    echo 'and "make check" tests the proofs, the contracts and the programs as well (40 minutes or more).'
+NOT_PROVED := echo 'NOTHING IN THIS BUILD IS PROVED. "make build" proves all programs (13 minutes or more the first time, on four processors),'; \
+    echo 'and "make check" tests the proofs, the contracts and the programs as well (an hour).'
 
 .PHONY: all help demo build check format faults fuzz dist install uninstall installcheck bench clean distclean
 
@@ -50,7 +50,7 @@ all: build
 
 help:
 	@echo 'make demo          builds all programs in two minutes, without proof, and runs them on the webs of examples/'
-	@echo 'make build         proves and builds ctangle, wmerge and wdep: 20 to 30 minutes the first time, on four processors'
+	@echo 'make build         proves and builds ctangle, wmerge and wdep: 13 minutes or more the first time, on four processors'
 	@echo 'make install       copies the proved programs, their man pages, the documents and the files that builds include below'
 	@echo '                   "$(prefix)" (docs/PACKAGING.md lists the variables); it builds nothing'
 	@echo 'make uninstall     removes what make install copied'
